@@ -1,0 +1,20 @@
+-- Document 01, "Numbers it comes back with". Assumes nothing.
+use Prim.Native.Nat.{ℕ}
+
+pub data Number : Type 0 where
+  done low-above-high column-too-long no-index space-too-short bad-borders bad-levels no-key no-filter no-room nothing-to-forget room-too-large unreadable : Number
+
+abbrev pub numbered : Number → ℕ
+numbered done = 0
+numbered low-above-high = 1
+numbered column-too-long = 2
+numbered no-index = 3
+numbered space-too-short = 4
+numbered bad-borders = 5
+numbered bad-levels = 6
+numbered no-key = 7
+numbered no-filter = 8
+numbered no-room = 9
+numbered nothing-to-forget = 10
+numbered room-too-large = 11
+numbered unreadable = 12
