@@ -1,0 +1,3 @@
+pub mod BinLaws
+pub mod MaskLaws
+pub mod BorderLaws

@@ -1,0 +1,4 @@
+pub mod ListLaws
+pub mod BitLaws
+pub mod BitOps
+pub mod Order

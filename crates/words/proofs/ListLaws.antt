@@ -1,0 +1,129 @@
+-- Laws of lists in pieces. Assumes nothing.
+use Prim.Native.Nat.{ℕ, zero, suc, _+_, _-_, _*_, _/_, _%_, _^_, _<_, _≤_}
+use mathlib.Core.Path.{_≡_, refl, sym, _∙_, ap}
+use mathlib.Core.List.{List, [], _∷_, _++_, map, append-nil, append-assoc}
+use mathlib.Core.Bool.{Bool, true, false, _&&_, and-eq-true-iff, false≢true}
+use lib.Dec.{leb, eqb}
+use borrow.Author.Tests.{leb-true, leb-false, eq-eqb, eqb-true}
+use native.Mathlib.Nat.{div-eq-of-lt, add-div-left, mul-zero, mul-suc, suc-mul}
+use native.Mathlib.Omega.{arith}
+use native.Mathlib.Numerals.{add-one}
+use lib.ListN.{length, take, drop, length-append, take-append-drop, length-drop, length-map}
+use lib.Seq.{take-all, take-at, drop-append-add, drop-at, length-take-le}
+use Rattle.words.specs.Lists.{from, ceil, pieces, joined, every, same}
+
+pub ceil-zero : (k : ℕ) → 0 < k → ceil 0 k ≡ 0
+ceil-zero k h = div-eq-of-lt (omega arith)
+
+pub ceil-more : (n k : ℕ) → 0 < k → ceil (k + n) k ≡ suc (ceil n k)
+ceil-more n k h = ap (λ (m : ℕ). m / k) e ∙ add-div-left (n + (k - 1)) h ∙ add-one (ceil n k)
+  where
+    e : k + n + (k - 1) ≡ k + (n + (k - 1))
+    e = omega arith
+
+pub ceil-short : (n k : ℕ) → 0 < n → n ≤ k → ceil n k ≡ 1
+ceil-short n k h g = ap (λ (m : ℕ). m / k) e ∙ add-div-left (n - 1) (omega arith) ∙ ap (λ (m : ℕ). m + 1) (div-eq-of-lt (omega arith))
+  where
+    e : n + (k - 1) ≡ k + (n - 1)
+    e = omega arith
+
+module _ {ℓ} {A : Type ℓ} where
+  -- a map over numbers that start one higher
+  pub map-from : (f : ℕ → A) (a n : ℕ) → map f (from (suc a) n) ≡ map (λ i. f (suc i)) (from a n)
+  map-from f a zero = refl
+  map-from f a (suc n) = ap (λ (l : List A). f (suc a) ∷ l) (map-from f (suc a) n)
+
+  pub map-ext : {B : Type 0} (f g : B → A) → ((b : B) → f b ≡ g b) → (l : List B) → map f l ≡ map g l
+  map-ext f g h [] = refl
+  map-ext f g h (x ∷ xs) = λ i. h x i ∷ map-ext f g h xs i
+
+module _ {ℓ} {A : Type ℓ} (k : ℕ) (pos : 0 < k) where
+  pub pieces-nil : pieces {A = A} k [] ≡ []
+  pieces-nil = ap (λ (n : ℕ). map (λ (i : ℕ). take {A = A} k (drop (k * i) [])) (from 0 n)) (ceil-zero k pos)
+
+  pub pieces-more : (f xs : List A) → length f ≡ k → pieces k (f ++ xs) ≡ f ∷ pieces k xs
+  pieces-more f xs h =
+      ap (λ (n : ℕ). map piece (from 0 n)) count
+      ∙ ap {B = List (List A)} (λ l. l ∷ map piece (from 1 (ceil (length xs) k))) first
+      ∙ ap {B = List (List A)} (λ l. f ∷ l) (map-from piece 0 (ceil (length xs) k) ∙ map-ext (λ (i : ℕ). piece (suc i)) (λ (i : ℕ). take k (drop (k * i) xs)) later (from 0 (ceil (length xs) k)))
+    where
+      piece : ℕ → List A
+      piece i = take k (drop (k * i) (f ++ xs))
+
+      count : ceil (length (f ++ xs)) k ≡ suc (ceil (length xs) k)
+      count = ap (λ (n : ℕ). ceil n k) (length-append f xs ∙ ap (λ (n : ℕ). n + length xs) h) ∙ ceil-more (length xs) k pos
+
+      first : piece 0 ≡ f
+      first = rw mul-zero (take-at f xs k h)
+
+      later : (i : ℕ) → piece (suc i) ≡ take k (drop (k * i) xs)
+      later i = ap (λ (n : ℕ). take k (drop n (f ++ xs))) (e i) ∙ ap (λ (l : List A). take k l) (drop-append-add f xs (k * i))
+        where
+          e : (i : ℕ) → k * suc i ≡ length f + k * i
+          e i = mul-suc k i ∙ omega (arith, h)
+
+  pub pieces-short : (xs : List A) → 0 < length xs → length xs ≤ k → pieces k xs ≡ xs ∷ []
+  pieces-short xs h g =
+      ap (λ (n : ℕ). map (λ (i : ℕ). take k (drop (k * i) xs)) (from 0 n)) (ceil-short (length xs) k h g)
+      ∙ ap {B = List (List A)} (λ l. l ∷ []) (rw mul-zero (take-all k xs g))
+
+-- pieces of a list that goes on: what was cut into whole pieces stays (request 101)
+pub pieces-append {ℓ} : {A : Type ℓ} (k : ℕ) → 0 < k → (q : ℕ) (a b : List A) → length a ≡ q * k → pieces k (a ++ b) ≡ pieces k a ++ pieces k b
+pieces-append k p zero [] b h = ap (λ (l : List _). l ++ pieces k b) (sym (pieces-nil k p))
+pieces-append k p zero (x ∷ a) b h = absurd (omega arith)
+pieces-append {A = A} k p (suc q) a b h =
+    let s = suc-mul q k in
+    let l : length (take k a) ≡ k = length-take-le k a (omega (arith, s)) in
+    let d : length (drop k a) ≡ q * k = length-drop k a ∙ omega (arith, s) in
+    let e = take-append-drop k a in
+    ap (λ (t : List A). pieces k (t ++ b)) (sym e)
+    ∙ ap (pieces k) (append-assoc (take k a) (drop k a) b)
+    ∙ pieces-more k p (take k a) (drop k a ++ b) l
+    ∙ ap {B = List (List A)} (λ t. take k a ∷ t) (pieces-append k p q (drop k a) b d)
+    ∙ ap (λ (t : List (List A)). t ++ pieces k b) (sym (pieces-more k p (take k a) (drop k a) l) ∙ ap (pieces k) e)
+
+-- the pieces of a list, joined again
+pub joined-pieces {ℓ} : {A : Type ℓ} (per : ℕ) → 0 < per → (n : ℕ) (xs : List A) → length xs ≤ n → joined (pieces per xs) ≡ xs
+joined-pieces per p zero [] h = ap joined (pieces-nil per p)
+joined-pieces per p (suc n) [] h = ap joined (pieces-nil per p)
+joined-pieces per p zero (x ∷ xs) h = absurd (omega arith)
+joined-pieces {A = A} per p (suc n) (x ∷ xs) h = go (leb (suc (length xs)) per) refl (joined-pieces per p n (drop per (x ∷ xs)) (omega (arith, length-drop per (x ∷ xs))))
+  where
+    all : List A
+    all = x ∷ xs
+
+    go : (t : Bool) → leb (suc (length xs)) per ≡ t → joined (pieces per (drop per all)) ≡ drop per all → joined (pieces per all) ≡ all
+    go true t ih = ap joined (pieces-short per p all (omega arith) (leb-true (suc (length xs)) per t)) ∙ append-nil all
+    go false t ih =
+        ap (λ (l : List A). joined (pieces per l)) (sym (take-append-drop per all))
+        ∙ ap joined (pieces-more per p (take per all) (drop per all) (length-take-le per all (omega (arith, leb-false (suc (length xs)) per t))))
+        ∙ ap (λ (l : List A). take per all ++ l) ih
+        ∙ take-append-drop per all
+
+pub length-from : (n a : ℕ) → length (from a n) ≡ n
+length-from zero a = refl
+length-from (suc n) a = ap suc (length-from n (suc a))
+
+pub pieces-count {ℓ} : {A : Type ℓ} (k : ℕ) (xs : List A) → length (pieces k xs) ≡ ceil (length xs) k
+pieces-count k xs = length-map (from 0 (ceil (length xs) k)) (λ (i : ℕ). take k (drop (k * i) xs)) ∙ length-from (ceil (length xs) k) 0
+
+-- every, of two lists in a row
+pub every-append : (f : ℕ → Bool) (a b : List ℕ) → every f (a ++ b) ≡ (every f a && every f b)
+every-append f [] b = refl
+every-append f (x ∷ a) b = go (f x) (every-append f a b)
+  where
+    go : (t : Bool) → every f (a ++ b) ≡ (every f a && every f b) → (t && every f (a ++ b)) ≡ ((t && every f a) && every f b)
+    go true e = e
+    go false e = refl
+
+pub same-refl : (xs : List ℕ) → same xs xs ≡ true
+same-refl [] = refl
+same-refl (x ∷ xs) = and-eq-true-iff (eqb x x) (same xs xs) .1 (eq-eqb x x refl, same-refl xs)
+
+pub same-eq : (xs ys : List ℕ) → same xs ys ≡ true → xs ≡ ys
+same-eq [] [] h = refl
+same-eq [] (y ∷ ys) h = absurd (false≢true h)
+same-eq (x ∷ xs) [] h = absurd (false≢true h)
+same-eq (x ∷ xs) (y ∷ ys) h =
+    let k = and-eq-true-iff (eqb x y) (same xs ys) .0 h in
+    λ i. eqb-true x y (k .0) i ∷ same-eq xs ys (k .1) i
