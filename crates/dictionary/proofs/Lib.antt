@@ -1,0 +1,9 @@
+pub mod Stream
+pub mod StreamLaws
+pub mod Accept
+pub mod AcceptLaws
+pub mod Parse
+pub mod ParseLaws
+pub mod RunsLaws
+pub mod PackerLaws
+pub mod IndexLaws

@@ -1,0 +1,3 @@
+pub mod Dictionary
+pub mod Position
+pub mod Packer
