@@ -1,0 +1,3 @@
+pub mod SearchLaws
+pub mod BuiltLaws
+pub mod RowsLaws

@@ -1,0 +1,25 @@
+-- Document 01: the index of a column, its three parts, and which words are an index for a column of this length. Assumes nothing.
+use Prim.Native.Nat.{ℕ}
+use mathlib.Core.List.{List}
+use mathlib.Core.Bool.{Bool}
+use lib.ListN.{length}
+use lib.IntN.{ℤ}
+use Rattle.words.specs.Lists.{ceil}
+use Rattle.bins.specs.Bins.{Kind, borders, bins, imprints}
+use Rattle.dictionary.specs.Dictionary.{Packed, pack, largest, accepted}
+
+-- rows r make ceil(r / rows per line) lines
+abbrev pub line-count : Kind → List ℤ → ℕ
+line-count k col = ceil (length col) (k .per)
+
+-- the packed imprints of a column, with these borders
+abbrev pub packed-with : Kind → List ℤ → List ℤ → Packed
+packed-with k bs col = pack largest (imprints k bs col)
+
+-- the index that build makes: its borders, and its words
+abbrev pub built : Kind → List ℤ → Packed
+built k col = packed-with k (borders k col) col
+
+-- the words ds, is are a packed form for a column of this length, with borders bs
+abbrev pub is-index-for : Kind → List ℤ → List ℤ → List ℕ → List ℕ → Bool
+is-index-for k bs col ds is = accepted largest (bins bs) (line-count k col) ds is

@@ -1,0 +1,1 @@
+// The index part: build, pack, unpack and range search over a lent column.
