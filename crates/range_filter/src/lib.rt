@@ -10,15 +10,19 @@ ghost use Rattle.range_filter.specs.Found.{orElse, moved, pairHere, firs
 ghost use lib.ListN.{length, take, drop};
 ghost use lib.Seq.{sets};
 
-pub enum Seen {
+// The place of a tree's first word.
+pub struct Node(pub usize);
+
+enum Seen {
     Bad,
     Good(usize),
 }
 
 // Whether a smallest tree of k levels is laid out at p, and its words.
-pub fn valid(w: &[u32], p: usize, k: u32) -> Seen
-    ensures { λ r. ⌜ Saw (now (w .entry)) p k r ⌝ }
+fn valid(w: &[u32], at: Node, k: u32) -> Seen
+    ensures { λ r. ⌜ Saw (now (w .entry)) (at .0) k r ⌝ }
 {
+    let p = at.0;
     if w.len() <= p {
         return Seen::Bad;
     }
@@ -29,13 +33,13 @@ pub fn valid(w: &[u32], p: usize, k: u32) -> Seen
     if k == 0 {
         return Seen::Bad;
     }
-    let Seen::Good(l) = valid(w, p + 1, k - 1) else {
+    let Seen::Good(l) = valid(w, Node(p + 1), k - 1) else {
         return Seen::Bad;
     };
     if l + 2 != v as usize {
         return Seen::Bad;
     }
-    let Seen::Good(r) = valid(w, p + 1 + l, k - 1) else {
+    let Seen::Good(r) = valid(w, Node(p + 1 + l), k - 1) else {
         return Seen::Bad;
     };
     let x = w[p + 1];
@@ -49,10 +53,11 @@ pub fn valid(w: &[u32], p: usize, k: u32) -> Seen
 }
 
 // Whether all keys lo to hi of the tree at p, of k levels and span 2^k keys, are in D.
-pub fn all_in(w: &[u32], p: usize, k: u32, span: u32, lo: u32, hi: u32) -> bool
-    requires { ⌜ Place (now w) p k span lo hi ⌝ }
-    ensures { λ r. ⌜ ((D : ℕ → Bool) → At (now (w .entry)) p (treeOf k D) → Says r (AllIn D lo hi)) ⌝ }
+fn all_in(w: &[u32], at: Node, k: u32, span: u32, lo: u32, hi: u32) -> bool
+    requires { ⌜ Place (now w) (at .0) k span lo hi ⌝ }
+    ensures { λ r. ⌜ ((D : ℕ → Bool) → At (now (w .entry)) (at .0) (treeOf k D) → Says r (AllIn D lo hi)) ⌝ }
 {
+    let p = at.0;
     let v = w[p];
     if v == 0 {
         return false;
@@ -63,30 +68,30 @@ pub fn all_in(w: &[u32], p: usize, k: u32, span: u32, lo: u32, hi: u32) -> bool
     let half = span / 2;
     let q = p + (v as usize) - 1;
     if hi < half {
-        return all_in(w, p + 1, k - 1, half, lo, hi);
+        return all_in(w, Node(p + 1), k - 1, half, lo, hi);
     }
     if half <= lo {
-        return all_in(w, q, k - 1, half, lo - half, hi - half);
+        return all_in(w, Node(q), k - 1, half, lo - half, hi - half);
     }
-    if all_in(w, p + 1, k - 1, half, lo, half - 1) {
-        all_in(w, q, k - 1, half, 0, hi - half)
+    if all_in(w, Node(p + 1), k - 1, half, lo, half - 1) {
+        all_in(w, Node(q), k - 1, half, 0, hi - half)
     } else {
         false
     }
 }
 
 // A tree in short: a leaf outside D, a leaf in D, or a tree of some splits.
-pub enum Form {
+enum Form {
     Out,
     In,
     Mixed(u32),
 }
 
 // Where the halves of a tree lie, and their words.
-pub struct Kids {
-    pub lp: usize,
+struct Kids {
+    pub lp: Node,
     pub ln: usize,
-    pub rp: usize,
+    pub rp: Node,
     pub rn: usize,
 }
 
@@ -120,10 +125,11 @@ fn joined(l: Form, r: Form) -> Form
 }
 
 // The short form of the tree of n words at p, as it stands.
-fn form_at(w: &[u32], p: usize, n: usize) -> Form
-    requires { ⌜ (Laid (now w) p n) × (n < 4000000000) ⌝ }
-    ensures { λ r. ⌜ ((t : Tree) → At (now (w .entry)) p t → r ≡ formOf t) ⌝ }
+fn form_at(w: &[u32], at: Node, n: usize) -> Form
+    requires { ⌜ (Laid (now w) (at .0) n) × (n < 4000000000) ⌝ }
+    ensures { λ r. ⌜ ((t : Tree) → At (now (w .entry)) (at .0) t → r ≡ formOf t) ⌝ }
 {
+    let p = at.0;
     let v = w[p];
     if v == 0 {
         return Form::Out;
@@ -135,29 +141,30 @@ fn form_at(w: &[u32], p: usize, n: usize) -> Form
 }
 
 // A leaf's halves are the leaf itself.
-fn halves(w: &[u32], p: usize, n: usize, k: u32) -> Kids
-    requires { ⌜ Sub (now w) p n k ⌝ }
-    ensures { λ r. ⌜ ((D : ℕ → Bool) → At (now (w .entry)) p (treeOf k D) → Halved (now (w .entry)) k D (r .lp) (r .ln) (r .rp) (r .rn)) ⌝ }
+fn halves(w: &[u32], at: Node, n: usize, k: u32) -> Kids
+    requires { ⌜ Sub (now w) (at .0) n k ⌝ }
+    ensures { λ r. ⌜ ((D : ℕ → Bool) → At (now (w .entry)) (at .0) (treeOf k D) → Halved (now (w .entry)) k D (r .lp .0) (r .ln) (r .rp .0) (r .rn)) ⌝ }
 {
+    let p = at.0;
     let v = w[p] as usize;
     if v < 2 {
         return Kids {
-            lp: p,
+            lp: at,
             ln: 1,
-            rp: p,
+            rp: at,
             rn: 1,
         };
     }
     Kids {
-        lp: p + 1,
+        lp: Node(p + 1),
         ln: v - 2,
-        rp: p + v - 1,
+        rp: Node(p + v - 1),
         rn: n + 1 - v,
     }
 }
 
 // A range as the two halves see it; one that does not meet a half is empty there: its low end is above its high end.
-pub struct Cut {
+struct Cut {
     pub llo: u32,
     pub lhi: u32,
     pub rlo: u32,
@@ -193,18 +200,18 @@ fn parted(half: u32, lo: u32, hi: u32) -> Cut
 }
 
 // The short form of the tree at p after its keys lo to hi were put in (b) or taken out.
-pub fn after(w: &[u32], p: usize, n: usize, k: u32, span: u32, lo: u32, hi: u32, b: bool) -> Form
-    requires { ⌜ Spot (now w) p n k span hi ⌝ }
-    ensures { λ r. ⌜ ((D : ℕ → Bool) → At (now (w .entry)) p (treeOf k D) → r ≡ formOf (treeOf k (paint b lo hi D))) ⌝ }
+fn after(w: &[u32], at: Node, n: usize, k: u32, span: u32, lo: u32, hi: u32, b: bool) -> Form
+    requires { ⌜ Spot (now w) (at .0) n k span hi ⌝ }
+    ensures { λ r. ⌜ ((D : ℕ → Bool) → At (now (w .entry)) (at .0) (treeOf k D) → r ≡ formOf (treeOf k (paint b lo hi D))) ⌝ }
 {
     if hi < lo {
-        return form_at(w, p, n);
+        return form_at(w, at, n);
     }
     if hi - lo == span - 1 {
         return flat(b);
     }
     let half = span / 2;
-    let c = halves(w, p, n, k);
+    let c = halves(w, at, n, k);
     let g = parted(half, lo, hi);
     joined(
         after(w, c.lp, c.ln, k - 1, half, g.llo, g.lhi, b),
@@ -235,9 +242,9 @@ fn copy(w: &[u32], p: usize, n: usize, out: &mut [u32], q: usize)
 }
 
 // Writes the tree at p of w, after its keys lo to hi were put in (b) or taken out, into out from q on. Returns the place after it.
-pub fn put(
+fn put(
     w: &[u32],
-    p: usize,
+    at: Node,
     n: usize,
     k: u32,
     span: u32,
@@ -245,26 +252,29 @@ pub fn put(
     hi: u32,
     b: bool,
     out: &mut [u32],
-    q: usize,
-) -> usize
-    requires { ⌜ Fill (now w) p n k span lo hi b (length (now out)) q ⌝ }
-    ensures { λ r. ⌜ ((D : ℕ → Bool) → At (now (w .entry)) p (treeOf k D) → Wrote (now (out .entry)) (now (out .exit)) q r (treeOf k (paint b lo hi D))) ⌝ }
+    to: Node,
+) -> Node
+    requires { ⌜ Fill (now w) (at .0) n k span lo hi b (length (now out)) (to .0) ⌝ }
+    ensures { λ r. ⌜ ((D : ℕ → Bool) → At (now (w .entry)) (at .0) (treeOf k D) → Wrote (now (out .entry)) (now (out .exit)) (to .0) (r .0) (treeOf k (paint b lo hi D))) ⌝ }
 {
+    let p = at.0;
+    let q = to.0;
     if hi < lo {
         copy(w, p, n, out, q);
-        return q + n;
+        return Node(q + n);
     }
-    let v = kind(after(w, p, n, k, span, lo, hi, b));
+    let v = kind(after(w, at, n, k, span, lo, hi, b));
     if v < 2 {
         out[q] = v;
-        return q + 1;
+        return Node(q + 1);
     }
     let half = span / 2;
-    let c = halves(w, p, n, k);
+    let c = halves(w, at, n, k);
     let g = parted(half, lo, hi);
-    let e = put(w, c.lp, c.ln, k - 1, half, g.llo, g.lhi, b, out, q + 1);
+    let next = put(w, c.lp, c.ln, k - 1, half, g.llo, g.lhi, b, out, Node(q + 1));
+    let e = next.0;
     out[q] = (e - q + 1) as u32;
-    put(w, c.rp, c.rn, k - 1, half, g.rlo, g.rhi, b, out, e)
+    put(w, c.rp, c.rn, k - 1, half, g.rlo, g.rhi, b, out, next)
 }
 
 fn span_of(k: u32) -> u32
@@ -285,18 +295,19 @@ fn splits_of(f: Form) -> u32
 }
 
 // A range of keys of a tree.
-pub struct Keys {
+struct Keys {
     pub lo: u32,
     pub hi: u32,
 }
 
 // The leaf that holds the key x.
-pub fn leaf_of(w: &[u32], p: usize, k: u32, span: u32, x: u32) -> Keys
-    requires { ⌜ Place (now w) p k span x x ⌝ }
-    ensures { λ r. ⌜ ((D : ℕ → Bool) → At (now (w .entry)) p (treeOf k D) → Holds (treeOf k D) k x (r .lo) (r .hi)) ⌝ }
+fn leaf_of(w: &[u32], at: Node, k: u32, span: u32, x: u32) -> Keys
+    requires { ⌜ Place (now w) (at .0) k span x x ⌝ }
+    ensures { λ r. ⌜ ((D : ℕ → Bool) → At (now (w .entry)) (at .0) (treeOf k D) → Holds (treeOf k D) k x (r .lo) (r .hi)) ⌝ }
     ensures { λ r. ⌜ r .hi < span ⌝ }
     ensures { λ r. ⌜ r .lo < span ⌝ }
 {
+    let p = at.0;
     let v = w[p];
     if v == 0 {
         return Keys {
@@ -312,9 +323,9 @@ pub fn leaf_of(w: &[u32], p: usize, k: u32, span: u32, x: u32) -> Keys
     }
     let half = span / 2;
     if x < half {
-        return leaf_of(w, p + 1, k - 1, half, x);
+        return leaf_of(w, Node(p + 1), k - 1, half, x);
     }
-    let s = leaf_of(w, p + (v as usize) - 1, k - 1, half, x - half);
+    let s = leaf_of(w, Node(p + (v as usize) - 1), k - 1, half, x - half);
     Keys {
         lo: s.lo + half,
         hi: s.hi + half,
@@ -322,7 +333,7 @@ pub fn leaf_of(w: &[u32], p: usize, k: u32, span: u32, x: u32) -> Keys
 }
 
 // A split with two leaves, by its first key and its last.
-pub enum Found {
+enum Found {
     Nothing,
     Pair(u32, u32),
 }
@@ -347,10 +358,12 @@ fn shifted(f: Found, m: u32) -> Found
 }
 
 // The split itself, whose halves are at p and q, where they are leaves and from is 0.
-fn pair_here(w: &[u32], p: usize, q: usize, from: u32, last: u32) -> Found
-    requires { ⌜ (p < length (now w)) × (q < length (now w)) ⌝ }
-    ensures { λ r. ⌜ ((l : Tree) (u : Tree) → At (now (w .entry)) p l → At (now (w .entry)) q u → r ≡ pairHere l u from last) ⌝ }
+fn pair_here(w: &[u32], l: Node, r: Node, from: u32, last: u32) -> Found
+    requires { ⌜ (l .0 < length (now w)) × (r .0 < length (now w)) ⌝ }
+    ensures { λ f. ⌜ ((t : Tree) (u : Tree) → At (now (w .entry)) (l .0) t → At (now (w .entry)) (r .0) u → f ≡ pairHere t u from last) ⌝ }
 {
+    let p = l.0;
+    let q = r.0;
     if 0 < from {
         return Found::Nothing;
     }
@@ -370,11 +383,12 @@ fn less(a: u32, b: u32) -> u32
 }
 
 // The first split with two leaves whose start is at or after from.
-pub fn first_pair(w: &[u32], p: usize, k: u32, span: u32, from: u32) -> Found
-    requires { ⌜ (Place (now w) p k span 0 0) × (span < 2000000000) ⌝ }
-    ensures { λ r. ⌜ ((D : ℕ → Bool) → At (now (w .entry)) p (treeOf k D) → r ≡ firstFrom (treeOf k D) k from) ⌝ }
+fn first_pair(w: &[u32], at: Node, k: u32, span: u32, from: u32) -> Found
+    requires { ⌜ (Place (now w) (at .0) k span 0 0) × (span < 2000000000) ⌝ }
+    ensures { λ r. ⌜ ((D : ℕ → Bool) → At (now (w .entry)) (at .0) (treeOf k D) → r ≡ firstFrom (treeOf k D) k from) ⌝ }
     ensures { λ r. ⌜ Below r span ⌝ }
 {
+    let p = at.0;
     let v = w[p];
     if v == 0 {
         return Found::Nothing;
@@ -384,8 +398,8 @@ pub fn first_pair(w: &[u32], p: usize, k: u32, span: u32, from: u32) -> Found
     }
     let half = span / 2;
     let q = p + (v as usize) - 1;
-    let here = pair_here(w, p + 1, q, from, span - 1);
-    let left = first_pair(w, p + 1, k - 1, half, from);
-    let right = first_pair(w, q, k - 1, half, less(from, half));
+    let here = pair_here(w, Node(p + 1), Node(q), from, span - 1);
+    let left = first_pair(w, Node(p + 1), k - 1, half, from);
+    let right = first_pair(w, Node(q), k - 1, half, less(from, half));
     or_else(here, or_else(left, shifted(right, half)))
 }

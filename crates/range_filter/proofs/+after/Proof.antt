@@ -40,7 +40,7 @@ after-form-at-requires t c κs =
     let a = s .args in
     let w = now (a .w) in
     let here = s .pre .1 in
-    laws.as-laid w (a .p) (a .n) (a .k) (a .span) (a .lo) (a .hi) here
+    laws.as-laid w (a .at .0) (a .n) (a .k) (a .span) (a .lo) (a .hi) here
 
 -- src/lib.rt:175:9
 after-returns : (t : ℕ) → after-lts.Need-returns (calls t) (after-at t) after.Post
@@ -58,7 +58,7 @@ after-sub-if2 t c =
     let a = s .args in
     let w = now (a .w) in
     let here = s .pre .1 in
-    omega (arith, laws.span-pos w (a .p) (a .n) (a .k) (a .span) (a .lo) (a .hi) here)
+    omega (arith, laws.span-pos w (a .at .0) (a .n) (a .k) (a .span) (a .lo) (a .hi) here)
 
 -- src/lib.rt:178:9
 after-flat-requires : (t : ℕ) → after-lts.Need-flat-requires (calls t) (after-at t) after.Post
@@ -71,7 +71,7 @@ after-returns-2 t c =
     let a = s .args in
     let w = now (a .w) in
     let here = s .pre .1 in
-    λ D h. c .flat .ensures ∙ sym (ap formOf (laws.whole-tree w (a .p) (a .n) (a .k) (a .span) (a .lo) (a .hi) here (c .before .before .if1 .left) (c .before .if2 .taken) (a .b) D))
+    λ D h. c .flat .ensures ∙ sym (ap formOf (laws.whole-tree w (a .at .0) (a .n) (a .k) (a .span) (a .lo) (a .hi) here (c .before .before .if1 .left) (c .before .if2 .taken) (a .b) D))
 
 -- src/lib.rt:181:9
 after-halves-requires : (t : ℕ) → after-lts.Need-halves-requires (calls t) (after-at t) after.Post
@@ -81,8 +81,8 @@ after-halves-requires t c κs =
     let a = s .args in
     let w = now (a .w) in
     let here = s .pre .1 in
-    let deep = laws.deep w (a .p) (a .n) (a .k) (a .span) (a .lo) (a .hi) here (f .before .if1 .left) (f .if2 .left) in
-    laws.as-sub w (a .p) (a .n) (a .k) (a .span) (a .lo) (a .hi) here deep
+    let deep = laws.deep w (a .at .0) (a .n) (a .k) (a .span) (a .lo) (a .hi) here (f .before .if1 .left) (f .if2 .left) in
+    laws.as-sub w (a .at .0) (a .n) (a .k) (a .span) (a .lo) (a .hi) here deep
 
 -- src/lib.rt:182:9
 after-parted-requires : (t : ℕ) → after-lts.Need-parted-requires (calls t) (after-at t) after.Post
@@ -92,8 +92,8 @@ after-parted-requires t c κs =
     let a = s .args in
     let w = now (a .w) in
     let here = s .pre .1 in
-    let deep = laws.deep w (a .p) (a .n) (a .k) (a .span) (a .lo) (a .hi) here (f .before .if1 .left) (f .if2 .left) in
-    laws.half-pos w (a .p) (a .n) (a .k) (a .span) (a .lo) (a .hi) here deep
+    let deep = laws.deep w (a .at .0) (a .n) (a .k) (a .span) (a .lo) (a .hi) here (f .before .if1 .left) (f .if2 .left) in
+    laws.half-pos w (a .at .0) (a .n) (a .k) (a .span) (a .lo) (a .hi) here deep
 
 -- src/lib.rt:184:30
 after-sub-after : (t : ℕ) → after-lts.Need-sub-after (calls t) (after-at t) after.Post
@@ -103,7 +103,7 @@ after-sub-after t c =
     let a = s .args in
     let w = now (a .w) in
     let here = s .pre .1 in
-    let deep = laws.deep w (a .p) (a .n) (a .k) (a .span) (a .lo) (a .hi) here (f .before .if1 .left) (f .if2 .left) in
+    let deep = laws.deep w (a .at .0) (a .n) (a .k) (a .span) (a .lo) (a .hi) here (f .before .if1 .left) (f .if2 .left) in
     let g = c in
     let h = g .before .halves .result in
     let r = g .parted .result in
@@ -117,11 +117,11 @@ after-after-requires t c κs =
     let a = s .args in
     let w = now (a .w) in
     let here = s .pre .1 in
-    let deep = laws.deep w (a .p) (a .n) (a .k) (a .span) (a .lo) (a .hi) here (f .before .if1 .left) (f .if2 .left) in
+    let deep = laws.deep w (a .at .0) (a .n) (a .k) (a .span) (a .lo) (a .hi) here (f .before .if1 .left) (f .if2 .left) in
     let g = c in
     let h = g .before .halves .result in
     let r = g .parted .result in
-    (omega (arith, s .pre .0), laws.left-spot w (a .p) (a .n) (a .k) (a .span) (a .lo) (a .hi) here deep (h .lp) (h .ln) (h .rp) (h .rn) (g .before .halves .ensures) (r .llo) (r .lhi) (r .rlo) (r .rhi) (g .parted .ensures))
+    (omega (arith, s .pre .0), laws.left-spot w (a .at .0) (a .n) (a .k) (a .span) (a .lo) (a .hi) here deep (h .lp .0) (h .ln) (h .rp .0) (h .rn) (g .before .halves .ensures) (r .llo) (r .lhi) (r .rlo) (r .rhi) (g .parted .ensures))
 
 -- src/lib.rt:185:30
 after-sub-after-2 : (t : ℕ) → after-lts.Need-sub-after-2 (calls t) (after-at t) after.Post
@@ -131,7 +131,7 @@ after-sub-after-2 t c =
     let a = s .args in
     let w = now (a .w) in
     let here = s .pre .1 in
-    let deep = laws.deep w (a .p) (a .n) (a .k) (a .span) (a .lo) (a .hi) here (f .before .if1 .left) (f .if2 .left) in
+    let deep = laws.deep w (a .at .0) (a .n) (a .k) (a .span) (a .lo) (a .hi) here (f .before .if1 .left) (f .if2 .left) in
     let g = c .before in
     let h = g .before .halves .result in
     let r = g .parted .result in
@@ -145,11 +145,11 @@ after-after-requires-2 t c κs =
     let a = s .args in
     let w = now (a .w) in
     let here = s .pre .1 in
-    let deep = laws.deep w (a .p) (a .n) (a .k) (a .span) (a .lo) (a .hi) here (f .before .if1 .left) (f .if2 .left) in
+    let deep = laws.deep w (a .at .0) (a .n) (a .k) (a .span) (a .lo) (a .hi) here (f .before .if1 .left) (f .if2 .left) in
     let g = c .before in
     let h = g .before .halves .result in
     let r = g .parted .result in
-    (omega (arith, s .pre .0), laws.right-spot w (a .p) (a .n) (a .k) (a .span) (a .lo) (a .hi) here deep (h .lp) (h .ln) (h .rp) (h .rn) (g .before .halves .ensures) (r .llo) (r .lhi) (r .rlo) (r .rhi) (g .parted .ensures))
+    (omega (arith, s .pre .0), laws.right-spot w (a .at .0) (a .n) (a .k) (a .span) (a .lo) (a .hi) here deep (h .lp .0) (h .ln) (h .rp .0) (h .rn) (g .before .halves .ensures) (r .llo) (r .lhi) (r .rlo) (r .rhi) (g .parted .ensures))
 
 -- src/lib.rt:183:5
 after-joined-requires : (t : ℕ) → after-lts.Need-joined-requires (calls t) (after-at t) after.Post
@@ -159,14 +159,14 @@ after-joined-requires t c κs =
     let a = s .args in
     let w = now (a .w) in
     let here = s .pre .1 in
-    let deep = laws.deep w (a .p) (a .n) (a .k) (a .span) (a .lo) (a .hi) here (f .before .if1 .left) (f .if2 .left) in
+    let deep = laws.deep w (a .at .0) (a .n) (a .k) (a .span) (a .lo) (a .hi) here (f .before .if1 .left) (f .if2 .left) in
     let g = c .before .before in
     let h = g .before .halves .result in
     let r = g .parted .result in
-    let m = laws.mine w (a .p) (a .n) (a .k) (a .span) (a .lo) (a .hi) here deep (h .lp) (h .ln) (h .rp) (h .rn) (g .before .halves .ensures) (r .llo) (r .lhi) (r .rlo) (r .rhi) (g .parted .ensures) in
+    let m = laws.mine w (a .at .0) (a .n) (a .k) (a .span) (a .lo) (a .hi) here deep (h .lp .0) (h .ln) (h .rp .0) (h .rn) (g .before .halves .ensures) (r .llo) (r .lhi) (r .rlo) (r .rhi) (g .parted .ensures) in
     let S = here .set in
     let R = shift (2 ^ (a .k - 1)) S in
-    omega (arith, ap splitsOf (c .before .after .ensures S (m .left)), ap splitsOf (c .after2 .ensures R (m .right)), laws.form-small w (a .p) (a .n) (a .k) (a .span) (a .lo) (a .hi) here deep (h .lp) (h .ln) (h .rp) (h .rn) (g .before .halves .ensures) (r .llo) (r .lhi) (r .rlo) (r .rhi) (g .parted .ensures) (paint (a .b) (r .llo) (r .lhi) S), laws.form-small w (a .p) (a .n) (a .k) (a .span) (a .lo) (a .hi) here deep (h .lp) (h .ln) (h .rp) (h .rn) (g .before .halves .ensures) (r .llo) (r .lhi) (r .rlo) (r .rhi) (g .parted .ensures) (paint (a .b) (r .rlo) (r .rhi) R))
+    omega (arith, ap splitsOf (c .before .after .ensures S (m .left)), ap splitsOf (c .after2 .ensures R (m .right)), laws.form-small w (a .at .0) (a .n) (a .k) (a .span) (a .lo) (a .hi) here deep (h .lp .0) (h .ln) (h .rp .0) (h .rn) (g .before .halves .ensures) (r .llo) (r .lhi) (r .rlo) (r .rhi) (g .parted .ensures) (paint (a .b) (r .llo) (r .lhi) S), laws.form-small w (a .at .0) (a .n) (a .k) (a .span) (a .lo) (a .hi) here deep (h .lp .0) (h .ln) (h .rp .0) (h .rn) (g .before .halves .ensures) (r .llo) (r .lhi) (r .rlo) (r .rhi) (g .parted .ensures) (paint (a .b) (r .rlo) (r .rhi) R))
 
 -- src/lib.rt:170:1
 after-returns-3 : (t : ℕ) → after-lts.Need-returns-3 (calls t) (after-at t) after.Post
@@ -176,11 +176,11 @@ after-returns-3 t c =
     let a = s .args in
     let w = now (a .w) in
     let here = s .pre .1 in
-    let deep = laws.deep w (a .p) (a .n) (a .k) (a .span) (a .lo) (a .hi) here (f .before .if1 .left) (f .if2 .left) in
+    let deep = laws.deep w (a .at .0) (a .n) (a .k) (a .span) (a .lo) (a .hi) here (f .before .if1 .left) (f .if2 .left) in
     let g = c .before .before .before in
     let h = g .before .halves .result in
     let r = g .parted .result in
-    λ D at. let v = g .before .halves .ensures D at in c .joined .ensures ∙ ap₂ joinForm (c .before .before .after .ensures D (v .left)) (c .before .after2 .ensures (shift (2 ^ (a .k - 1)) D) (v .right)) ∙ sym (laws.cut-form w (a .p) (a .n) (a .k) (a .span) (a .lo) (a .hi) here deep (h .lp) (h .ln) (h .rp) (h .rn) (g .before .halves .ensures) (r .llo) (r .lhi) (r .rlo) (r .rhi) (g .parted .ensures) (a .b) D)
+    λ D at. let v = g .before .halves .ensures D at in c .joined .ensures ∙ ap₂ joinForm (c .before .before .after .ensures D (v .left)) (c .before .after2 .ensures (shift (2 ^ (a .k - 1)) D) (v .right)) ∙ sym (laws.cut-form w (a .at .0) (a .n) (a .k) (a .span) (a .lo) (a .hi) here deep (h .lp .0) (h .ln) (h .rp .0) (h .rn) (g .before .halves .ensures) (r .llo) (r .lhi) (r .rlo) (r .rhi) (g .parted .ensures) (a .b) D)
 
 pub +after-spec : {M : Type 1} → statement M
 +after-spec = close μ-after λ t. after-lts.spec (calls t)

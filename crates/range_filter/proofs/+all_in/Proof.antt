@@ -31,7 +31,7 @@ all-in-mul-v t c =
     let a = s .args in
     let w = now (a .w) in
     let here = s .pre .1 in
-    omega (arith, laws.in-words w (a .p) (a .k) (a .span) (a .lo) (a .hi) here)
+    omega (arith, laws.in-words w (a .at .0) (a .k) (a .span) (a .lo) (a .hi) here)
 
 -- src/lib.rt:52:13
 all-in-shared-slice-read-v : (t : ℕ) → all-in-lts.Need-shared-slice-read-v (
@@ -43,7 +43,7 @@ all-in-shared-slice-read-v t c =
     let a = s .args in
     let w = now (a .w) in
     let here = s .pre .1 in
-    omega (arith, laws.in-words w (a .p) (a .k) (a .span) (a .lo) (a .hi) here)
+    omega (arith, laws.in-words w (a .at .0) (a .k) (a .span) (a .lo) (a .hi) here)
 
 -- src/lib.rt:54:9
 all-in-returns :
@@ -53,7 +53,7 @@ all-in-returns t c =
     let a = s .args in
     let w = now (a .w) in
     let here = s .pre .1 in
-    laws.says-out w (a .p) (a .k) (a .span) (a .lo) (a .hi) here (c .if1 .taken)
+    laws.says-out w (a .at .0) (a .k) (a .span) (a .lo) (a .hi) here (c .if1 .taken)
 
 -- src/lib.rt:57:9
 all-in-returns-2 :
@@ -63,7 +63,7 @@ all-in-returns-2 t c =
     let a = s .args in
     let w = now (a .w) in
     let here = s .pre .1 in
-    laws.says-in w (a .p) (a .k) (a .span) (a .lo) (a .hi) here (c .if2 .taken)
+    laws.says-in w (a .at .0) (a .k) (a .span) (a .lo) (a .hi) here (c .if2 .taken)
 
 -- src/lib.rt:60:18
 all-in-cast-q :
@@ -76,7 +76,7 @@ all-in-cast-q t c =
     let here = s .pre .1 in
     let n0 = e .before .if1 .left in
     let n1 = e .if2 .left in
-    omega (arith, e .before .before .shared-slice-known2 .given (a .p))
+    omega (arith, e .before .before .shared-slice-known2 .given (a .at .0))
 
 -- src/lib.rt:60:13
 all-in-add-q :
@@ -89,7 +89,7 @@ all-in-add-q t c =
     let here = s .pre .1 in
     let n0 = e .before .if1 .left in
     let n1 = e .if2 .left in
-    omega (arith, laws.right-in w (a .p) (a .k) (a .span) (a .lo) (a .hi) here n0 n1, s .good .0 .0)
+    omega (arith, laws.right-in w (a .at .0) (a .k) (a .span) (a .lo) (a .hi) here n0 n1, s .good .0 .0)
 
 -- src/lib.rt:60:13
 all-in-sub-q :
@@ -98,7 +98,7 @@ all-in-sub-q t c = search needs
 
 -- src/lib.rt:62:26
 all-in-add-all-in :
-    (t : ℕ) → all-in-lts.Need-add-all-in (all-in-below t, all-in.Post) (all-in-at t) all-in.Post
+    (t : ℕ) → all-in-lts.Need-add-t16 (all-in-below t, all-in.Post) (all-in-at t) all-in.Post
 all-in-add-all-in t c =
     let e = c .before in
     let s = e .before .before .before .before in
@@ -107,7 +107,7 @@ all-in-add-all-in t c =
     let here = s .pre .1 in
     let n0 = e .before .if1 .left in
     let n1 = e .if2 .left in
-    omega (arith, laws.in-words w (a .p) (a .k) (a .span) (a .lo) (a .hi) here)
+    omega (arith, laws.in-words w (a .at .0) (a .k) (a .span) (a .lo) (a .hi) here)
 
 -- src/lib.rt:62:33
 all-in-sub-all-in :
@@ -120,7 +120,7 @@ all-in-sub-all-in t c =
     let here = s .pre .1 in
     let n0 = e .before .if1 .left in
     let n1 = e .if2 .left in
-    let deep = laws.deep w (a .p) (a .k) (a .span) (a .lo) (a .hi) here n0 n1 in
+    let deep = laws.deep w (a .at .0) (a .k) (a .span) (a .lo) (a .hi) here n0 n1 in
     omega arith
 
 -- src/lib.rt:62:9
@@ -135,7 +135,7 @@ all-in-all-in-requires t c κs =
     let here = s .pre .1 in
     let n0 = e .before .if1 .left in
     let n1 = e .if2 .left in
-    ((let deep = laws.deep w (a .p) (a .k) (a .span) (a .lo) (a .hi) here n0 n1 in omega (arith, s .pre .0)), laws.go-left w (a .p) (a .k) (a .span) (a .lo) (a .hi) here n0 n1 (a .hi) (c .if3 .taken) (here .order))
+    ((let deep = laws.deep w (a .at .0) (a .k) (a .span) (a .lo) (a .hi) here n0 n1 in omega (arith, s .pre .0)), laws.go-left w (a .at .0) (a .k) (a .span) (a .lo) (a .hi) here n0 n1 (a .hi) (c .if3 .taken) (here .order))
 
 -- src/lib.rt:62:9
 all-in-returns-3 :
@@ -148,7 +148,7 @@ all-in-returns-3 t c =
     let here = s .pre .1 in
     let n0 = e .before .if1 .left in
     let n1 = e .if2 .left in
-    λ D h. c .all-in .ensures D (laws.halves w (a .p) (a .k) (a .span) (a .lo) (a .hi) here n0 n1 D h .left)
+    λ D h. c .all-in .ensures D (laws.halves w (a .at .0) (a .k) (a .span) (a .lo) (a .hi) here n0 n1 D h .left)
 
 -- src/lib.rt:65:29
 all-in-sub-all-in-2 :
@@ -161,7 +161,7 @@ all-in-sub-all-in-2 t c =
     let here = s .pre .1 in
     let n0 = e .before .if1 .left in
     let n1 = e .if2 .left in
-    let deep = laws.deep w (a .p) (a .k) (a .span) (a .lo) (a .hi) here n0 n1 in
+    let deep = laws.deep w (a .at .0) (a .k) (a .span) (a .lo) (a .hi) here n0 n1 in
     omega arith
 
 -- src/lib.rt:65:9
@@ -177,7 +177,7 @@ all-in-all-in-requires-2 t c κs =
     let here = s .pre .1 in
     let n0 = e .before .if1 .left in
     let n1 = e .if2 .left in
-    ((let deep = laws.deep w (a .p) (a .k) (a .span) (a .lo) (a .hi) here n0 n1 in omega (arith, s .pre .0)), laws.go-right w (a .p) (a .k) (a .span) (a .lo) (a .hi) here n0 n1 (a .lo - a .span / 2) (c .before .if3 .left) (omega (arith, here .order)))
+    ((let deep = laws.deep w (a .at .0) (a .k) (a .span) (a .lo) (a .hi) here n0 n1 in omega (arith, s .pre .0)), laws.go-right w (a .at .0) (a .k) (a .span) (a .lo) (a .hi) here n0 n1 (a .lo - a .span / 2) (c .before .if3 .left) (omega (arith, here .order)))
 
 -- src/lib.rt:65:9
 all-in-returns-4 :
@@ -190,11 +190,11 @@ all-in-returns-4 t c =
     let here = s .pre .1 in
     let n0 = e .before .if1 .left in
     let n1 = e .if2 .left in
-    λ D h. laws.says-high w (a .p) (a .k) (a .span) (a .lo) (a .hi) here n0 n1 (c .all-in2 .result) D (c .before .if4 .taken) (c .all-in2 .ensures (shift (2 ^ (a .k - 1)) D) (laws.right-at w (a .p) (a .k) (a .span) (a .lo) (a .hi) here n0 n1 D h))
+    λ D h. laws.says-high w (a .at .0) (a .k) (a .span) (a .lo) (a .hi) here n0 n1 (c .all-in2 .result) D (c .before .if4 .taken) (c .all-in2 .ensures (shift (2 ^ (a .k - 1)) D) (laws.right-at w (a .at .0) (a .k) (a .span) (a .lo) (a .hi) here n0 n1 D h))
 
 -- src/lib.rt:67:18
 all-in-add-all-in-2 :
-    (t : ℕ) → all-in-lts.Need-add-all-in-2 (all-in-below t, all-in.Post) (all-in-at t) all-in.Post
+    (t : ℕ) → all-in-lts.Need-add-t15 (all-in-below t, all-in.Post) (all-in-at t) all-in.Post
 all-in-add-all-in-2 t c =
     let e = c .before .before in
     let s = e .before .before .before .before in
@@ -203,7 +203,7 @@ all-in-add-all-in-2 t c =
     let here = s .pre .1 in
     let n0 = e .before .if1 .left in
     let n1 = e .if2 .left in
-    omega (arith, laws.in-words w (a .p) (a .k) (a .span) (a .lo) (a .hi) here)
+    omega (arith, laws.in-words w (a .at .0) (a .k) (a .span) (a .lo) (a .hi) here)
 
 -- src/lib.rt:67:25
 all-in-sub-all-in-3 :
@@ -216,7 +216,7 @@ all-in-sub-all-in-3 t c =
     let here = s .pre .1 in
     let n0 = e .before .if1 .left in
     let n1 = e .if2 .left in
-    let deep = laws.deep w (a .p) (a .k) (a .span) (a .lo) (a .hi) here n0 n1 in
+    let deep = laws.deep w (a .at .0) (a .k) (a .span) (a .lo) (a .hi) here n0 n1 in
     omega arith
 
 -- src/lib.rt:67:42
@@ -230,7 +230,7 @@ all-in-sub-all-in-4 t c =
     let here = s .pre .1 in
     let n0 = e .before .if1 .left in
     let n1 = e .if2 .left in
-    omega (arith, laws.half-pos w (a .p) (a .k) (a .span) (a .lo) (a .hi) here n0 n1)
+    omega (arith, laws.half-pos w (a .at .0) (a .k) (a .span) (a .lo) (a .hi) here n0 n1)
 
 -- src/lib.rt:67:8
 all-in-all-in-requires-3 : (t : ℕ) → all-in-lts.Need-all-in-requires-3 (
@@ -245,7 +245,7 @@ all-in-all-in-requires-3 t c κs =
     let here = s .pre .1 in
     let n0 = e .before .if1 .left in
     let n1 = e .if2 .left in
-    ((let deep = laws.deep w (a .p) (a .k) (a .span) (a .lo) (a .hi) here n0 n1 in omega (arith, s .pre .0)), laws.go-left w (a .p) (a .k) (a .span) (a .lo) (a .hi) here n0 n1 (a .span / 2 - 1) (omega (arith, laws.half-pos w (a .p) (a .k) (a .span) (a .lo) (a .hi) here n0 n1)) (omega (arith, c .if4 .left)))
+    ((let deep = laws.deep w (a .at .0) (a .k) (a .span) (a .lo) (a .hi) here n0 n1 in omega (arith, s .pre .0)), laws.go-left w (a .at .0) (a .k) (a .span) (a .lo) (a .hi) here n0 n1 (a .span / 2 - 1) (omega (arith, laws.half-pos w (a .at .0) (a .k) (a .span) (a .lo) (a .hi) here n0 n1)) (omega (arith, c .if4 .left)))
 
 -- src/lib.rt:68:22
 all-in-sub-all-in-5 :
@@ -258,7 +258,7 @@ all-in-sub-all-in-5 t c =
     let here = s .pre .1 in
     let n0 = e .before .if1 .left in
     let n1 = e .if2 .left in
-    let deep = laws.deep w (a .p) (a .k) (a .span) (a .lo) (a .hi) here n0 n1 in
+    let deep = laws.deep w (a .at .0) (a .k) (a .span) (a .lo) (a .hi) here n0 n1 in
     omega arith
 
 -- src/lib.rt:68:9
@@ -274,7 +274,7 @@ all-in-all-in-requires-4 t c κs =
     let here = s .pre .1 in
     let n0 = e .before .if1 .left in
     let n1 = e .if2 .left in
-    ((let deep = laws.deep w (a .p) (a .k) (a .span) (a .lo) (a .hi) here n0 n1 in omega (arith, s .pre .0)), laws.go-right w (a .p) (a .k) (a .span) (a .lo) (a .hi) here n0 n1 0 (c .before .before .before .if3 .left) (omega arith))
+    ((let deep = laws.deep w (a .at .0) (a .k) (a .span) (a .lo) (a .hi) here n0 n1 in omega (arith, s .pre .0)), laws.go-right w (a .at .0) (a .k) (a .span) (a .lo) (a .hi) here n0 n1 0 (c .before .before .before .if3 .left) (omega arith))
 
 -- src/lib.rt:48:1
 all-in-returns-5 :
@@ -287,7 +287,7 @@ all-in-returns-5 t c =
     let here = s .pre .1 in
     let n0 = e .before .if1 .left in
     let n1 = e .if2 .left in
-    λ D h. laws.says-both w (a .p) (a .k) (a .span) (a .lo) (a .hi) here n0 n1 (c .all-in4 .result) D (c .before .before .before .if4 .left) (c .before .before .before .before .if3 .left) (subst (λ r. Says r (AllIn D (a .lo) (a .span / 2 - 1))) (c .before .if5 .taken) (c .before .before .all-in3 .ensures D (laws.halves w (a .p) (a .k) (a .span) (a .lo) (a .hi) here n0 n1 D h .left))) (c .all-in4 .ensures (shift (2 ^ (a .k - 1)) D) (laws.right-at w (a .p) (a .k) (a .span) (a .lo) (a .hi) here n0 n1 D h))
+    λ D h. laws.says-both w (a .at .0) (a .k) (a .span) (a .lo) (a .hi) here n0 n1 (c .all-in4 .result) D (c .before .before .before .if4 .left) (c .before .before .before .before .if3 .left) (subst (λ r. Says r (AllIn D (a .lo) (a .span / 2 - 1))) (c .before .if5 .taken) (c .before .before .all-in3 .ensures D (laws.halves w (a .at .0) (a .k) (a .span) (a .lo) (a .hi) here n0 n1 D h .left))) (c .all-in4 .ensures (shift (2 ^ (a .k - 1)) D) (laws.right-at w (a .at .0) (a .k) (a .span) (a .lo) (a .hi) here n0 n1 D h))
 
 -- src/lib.rt:48:1
 all-in-returns-6 :
@@ -300,7 +300,7 @@ all-in-returns-6 t c =
     let here = s .pre .1 in
     let n0 = e .before .if1 .left in
     let n1 = e .if2 .left in
-    λ D h. laws.says-not w (a .p) (a .k) (a .span) (a .lo) (a .hi) here n0 n1 D (c .before .before .before .if3 .left) (subst (λ r. Says r (AllIn D (a .lo) (a .span / 2 - 1))) (c .if5 .left) (c .before .all-in3 .ensures D (laws.halves w (a .p) (a .k) (a .span) (a .lo) (a .hi) here n0 n1 D h .left)))
+    λ D h. laws.says-not w (a .at .0) (a .k) (a .span) (a .lo) (a .hi) here n0 n1 D (c .before .before .before .if3 .left) (subst (λ r. Says r (AllIn D (a .lo) (a .span / 2 - 1))) (c .if5 .left) (c .before .all-in3 .ensures D (laws.halves w (a .at .0) (a .k) (a .span) (a .lo) (a .hi) here n0 n1 D h .left)))
 
 pub +all-in-spec : {M : Type 1} → statement M
 +all-in-spec =

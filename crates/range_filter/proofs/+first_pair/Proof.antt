@@ -42,7 +42,7 @@ first-pair-mul-v t c =
     let a = s .args in
     let w = now (a .w) in
     let here = s .pre .1 .0 in
-    omega (arith, ask.in-words w (a .p) (a .k) (a .span) 0 0 here)
+    omega (arith, ask.in-words w (a .at .0) (a .k) (a .span) 0 0 here)
 
 -- src/lib.rt:458:13
 first-pair-shared-slice-read-v : (t : ℕ) → first-pair-lts.Need-shared-slice-read-v (calls t) (first-pair-at t) first-pair.Post
@@ -51,7 +51,7 @@ first-pair-shared-slice-read-v t c =
     let a = s .args in
     let w = now (a .w) in
     let here = s .pre .1 .0 in
-    omega (arith, ask.in-words w (a .p) (a .k) (a .span) 0 0 here)
+    omega (arith, ask.in-words w (a .at .0) (a .k) (a .span) 0 0 here)
 
 -- src/lib.rt:460:9
 first-pair-returns : (t : ℕ) → first-pair-lts.Need-returns (calls t) (first-pair-at t) first-pair.Post
@@ -60,7 +60,7 @@ first-pair-returns t c =
     let a = s .args in
     let w = now (a .w) in
     let here = s .pre .1 .0 in
-    (laws.first-leaf w (a .p) (a .k) (a .span) here false (a .from) (c .if1 .taken), tt)
+    (laws.first-leaf w (a .at .0) (a .k) (a .span) here false (a .from) (c .if1 .taken), tt)
 
 -- src/lib.rt:463:9
 first-pair-returns-2 : (t : ℕ) → first-pair-lts.Need-returns-2 (calls t) (first-pair-at t) first-pair.Post
@@ -69,7 +69,7 @@ first-pair-returns-2 t c =
     let a = s .args in
     let w = now (a .w) in
     let here = s .pre .1 .0 in
-    (laws.first-leaf w (a .p) (a .k) (a .span) here true (a .from) (c .if2 .taken), tt)
+    (laws.first-leaf w (a .at .0) (a .k) (a .span) here true (a .from) (c .if2 .taken), tt)
 
 -- src/lib.rt:466:18
 first-pair-cast-q : (t : ℕ) → first-pair-lts.Need-cast-q (calls t) (first-pair-at t) first-pair.Post
@@ -81,7 +81,7 @@ first-pair-cast-q t c =
     let here = s .pre .1 .0 in
     let n0 = e .before .if1 .left in
     let n1 = e .if2 .left in
-    omega (arith, e .before .before .shared-slice-known2 .given (a .p))
+    omega (arith, e .before .before .shared-slice-known2 .given (a .at .0))
 
 -- src/lib.rt:466:13
 first-pair-add-q : (t : ℕ) → first-pair-lts.Need-add-q (calls t) (first-pair-at t) first-pair.Post
@@ -93,7 +93,7 @@ first-pair-add-q t c =
     let here = s .pre .1 .0 in
     let n0 = e .before .if1 .left in
     let n1 = e .if2 .left in
-    omega (arith, ask.right-in w (a .p) (a .k) (a .span) 0 0 here n0 n1, s .good .0 .0)
+    omega (arith, ask.right-in w (a .at .0) (a .k) (a .span) 0 0 here n0 n1, s .good .0 .0)
 
 -- src/lib.rt:466:13
 first-pair-sub-q : (t : ℕ) → first-pair-lts.Need-sub-q (calls t) (first-pair-at t) first-pair.Post
@@ -108,7 +108,7 @@ first-pair-sub-q t c =
     omega arith
 
 -- src/lib.rt:467:29
-first-pair-add-pair-here : (t : ℕ) → first-pair-lts.Need-add-pair-here (calls t) (first-pair-at t) first-pair.Post
+first-pair-add-pair-here : (t : ℕ) → first-pair-lts.Need-add-t13 (calls t) (first-pair-at t) first-pair.Post
 first-pair-add-pair-here t c =
     let e = c in
     let s = e .before .before .before .before in
@@ -117,7 +117,7 @@ first-pair-add-pair-here t c =
     let here = s .pre .1 .0 in
     let n0 = e .before .if1 .left in
     let n1 = e .if2 .left in
-    omega (arith, ask.in-words w (a .p) (a .k) (a .span) 0 0 here, s .good .0 .0)
+    omega (arith, ask.in-words w (a .at .0) (a .k) (a .span) 0 0 here, s .good .0 .0)
 
 -- src/lib.rt:467:45
 first-pair-sub-pair-here : (t : ℕ) → first-pair-lts.Need-sub-pair-here (calls t) (first-pair-at t) first-pair.Post
@@ -141,10 +141,10 @@ first-pair-pair-here-requires t c κs =
     let here = s .pre .1 .0 in
     let n0 = e .before .if1 .left in
     let n1 = e .if2 .left in
-    (at-in w (a .p + 1) (treeOf (a .k - 1) (here .set)) (ask.halves w (a .p) (a .k) (a .span) 0 0 here n0 n1 (here .set) (here .laid) .left), ask.right-in w (a .p) (a .k) (a .span) 0 0 here n0 n1)
+    (at-in w (a .at .0 + 1) (treeOf (a .k - 1) (here .set)) (ask.halves w (a .at .0) (a .k) (a .span) 0 0 here n0 n1 (here .set) (here .laid) .left), ask.right-in w (a .at .0) (a .k) (a .span) 0 0 here n0 n1)
 
 -- src/lib.rt:468:30
-first-pair-add-first-pair : (t : ℕ) → first-pair-lts.Need-add-first-pair (calls t) (first-pair-at t) first-pair.Post
+first-pair-add-first-pair : (t : ℕ) → first-pair-lts.Need-add-t17 (calls t) (first-pair-at t) first-pair.Post
 first-pair-add-first-pair t c =
     let e = c .before in
     let s = e .before .before .before .before in
@@ -153,7 +153,7 @@ first-pair-add-first-pair t c =
     let here = s .pre .1 .0 in
     let n0 = e .before .if1 .left in
     let n1 = e .if2 .left in
-    omega (arith, ask.in-words w (a .p) (a .k) (a .span) 0 0 here, s .good .0 .0)
+    omega (arith, ask.in-words w (a .at .0) (a .k) (a .span) 0 0 here, s .good .0 .0)
 
 -- src/lib.rt:468:37
 first-pair-sub-first-pair : (t : ℕ) → first-pair-lts.Need-sub-first-pair (calls t) (first-pair-at t) first-pair.Post
@@ -165,7 +165,7 @@ first-pair-sub-first-pair t c =
     let here = s .pre .1 .0 in
     let n0 = e .before .if1 .left in
     let n1 = e .if2 .left in
-    let deep = ask.deep w (a .p) (a .k) (a .span) 0 0 here n0 n1 in
+    let deep = ask.deep w (a .at .0) (a .k) (a .span) 0 0 here n0 n1 in
     omega arith
 
 -- src/lib.rt:468:9
@@ -178,7 +178,7 @@ first-pair-first-pair-requires t c κs =
     let here = s .pre .1 .0 in
     let n0 = e .before .if1 .left in
     let n1 = e .if2 .left in
-    ((let deep = ask.deep w (a .p) (a .k) (a .span) 0 0 here n0 n1 in omega (arith, s .pre .0)), (ask.go-left w (a .p) (a .k) (a .span) 0 0 here n0 n1 0 (ask.half-pos w (a .p) (a .k) (a .span) 0 0 here n0 n1) (omega arith), omega (arith, s .pre .1 .1)))
+    ((let deep = ask.deep w (a .at .0) (a .k) (a .span) 0 0 here n0 n1 in omega (arith, s .pre .0)), (ask.go-left w (a .at .0) (a .k) (a .span) 0 0 here n0 n1 0 (ask.half-pos w (a .at .0) (a .k) (a .span) 0 0 here n0 n1) (omega arith), omega (arith, s .pre .1 .1)))
 
 -- src/lib.rt:469:34
 first-pair-sub-first-pair-2 : (t : ℕ) → first-pair-lts.Need-sub-first-pair-2 (calls t) (first-pair-at t) first-pair.Post
@@ -190,7 +190,7 @@ first-pair-sub-first-pair-2 t c =
     let here = s .pre .1 .0 in
     let n0 = e .before .if1 .left in
     let n1 = e .if2 .left in
-    let deep = ask.deep w (a .p) (a .k) (a .span) 0 0 here n0 n1 in
+    let deep = ask.deep w (a .at .0) (a .k) (a .span) 0 0 here n0 n1 in
     omega arith
 
 -- src/lib.rt:469:47
@@ -207,7 +207,7 @@ first-pair-first-pair-requires-2 t c κs =
     let here = s .pre .1 .0 in
     let n0 = e .before .if1 .left in
     let n1 = e .if2 .left in
-    ((let deep = ask.deep w (a .p) (a .k) (a .span) 0 0 here n0 n1 in omega (arith, s .pre .0)), (ask.go-right-one w (a .p) (a .k) (a .span) 0 0 here n0 n1, omega (arith, s .pre .1 .1)))
+    ((let deep = ask.deep w (a .at .0) (a .k) (a .span) 0 0 here n0 n1 in omega (arith, s .pre .0)), (ask.go-right-one w (a .at .0) (a .k) (a .span) 0 0 here n0 n1, omega (arith, s .pre .1 .1)))
 
 -- src/lib.rt:470:33
 first-pair-shifted-requires : (t : ℕ) → first-pair-lts.Need-shifted-requires (calls t) (first-pair-at t) first-pair.Post
@@ -245,16 +245,16 @@ first-pair-returns-3 t c =
     let f2 = c .before .before .before .first-pair2 in
     let sh = c .before .before .shifted in
     let oe = c .before .or-else in
-    let wh = ask.half-is (a .k) (a .span) (ask.deep w (a .p) (a .k) (a .span) 0 0 here n0 n1) (here .whole) in
+    let wh = ask.half-is (a .k) (a .span) (ask.deep w (a .at .0) (a .k) (a .span) 0 0 here n0 n1) (here .whole) in
     let L = treeOf (a .k - 1) (here .set) in
     let R = treeOf (a .k - 1) (shift (2 ^ (a .k - 1)) (here .set)) in
-    let hb = subst (λ x. Below x (a .span)) (sym (ph .ensures L R (ask.halves w (a .p) (a .k) (a .span) 0 0 here n0 n1 (here .set) (here .laid) .left) (ask.right-at w (a .p) (a .k) (a .span) 0 0 here n0 n1 (here .set) (here .laid)))) (laws.here-below L R (a .from) (a .span - 1) (a .span) (omega (arith, here .inside))) in
+    let hb = subst (λ x. Below x (a .span)) (sym (ph .ensures L R (ask.halves w (a .at .0) (a .k) (a .span) 0 0 here n0 n1 (here .set) (here .laid) .left) (ask.right-at w (a .at .0) (a .k) (a .span) 0 0 here n0 n1 (here .set) (here .laid)))) (laws.here-below L R (a .from) (a .span - 1) (a .span) (omega (arith, here .inside))) in
     let sb = subst (λ x. Below x (a .span)) (sym (sh .ensures)) (laws.moved-below (f2 .result) (a .span / 2) (a .span) (omega arith) (f2 .ensures .1)) in
     let fb = laws.wider (f1 .result) (a .span / 2) (a .span) (omega arith) (f1 .ensures .1) in
     let ob = subst (λ x. Below x (a .span)) (sym (oe .ensures)) (laws.or-below (f1 .result) (sh .result) (a .span) fb sb) in (
-      λ D h. let hv = ask.halves w (a .p) (a .k) (a .span) 0 0 here n0 n1 D h in
-          let ra = ask.right-at w (a .p) (a .k) (a .span) 0 0 here n0 n1 D h in
-          laws.first-split w (a .p) (a .k) (a .span) here n0 n1 D h (a .from) (ph .result) (f1 .result) (f2 .result) (sh .result) (c .or-else2 .result)
+      λ D h. let hv = ask.halves w (a .at .0) (a .k) (a .span) 0 0 here n0 n1 D h in
+          let ra = ask.right-at w (a .at .0) (a .k) (a .span) 0 0 here n0 n1 D h in
+          laws.first-split w (a .at .0) (a .k) (a .span) here n0 n1 D h (a .from) (ph .result) (f1 .result) (f2 .result) (sh .result) (c .or-else2 .result)
           (ph .ensures (treeOf (a .k - 1) D) (treeOf (a .k - 1) (shift (2 ^ (a .k - 1)) D)) (hv .left) ra)
           (f1 .ensures .0 D (hv .left))
           (subst (λ (i : ℕ). f2 .result ≡ firstFrom (treeOf (a .k - 1) (shift (2 ^ (a .k - 1)) D)) (a .k - 1) i) (ls .ensures) (f2 .ensures .0 (shift (2 ^ (a .k - 1)) D) ra))

@@ -32,7 +32,7 @@ leaf-of-mul-v t c =
     let a = s .args in
     let w = now (a .w) in
     let here = s .pre .1 in
-    omega (arith, ask.in-words w (a .p) (a .k) (a .span) (a .x) (a .x) here)
+    omega (arith, ask.in-words w (a .at .0) (a .k) (a .span) (a .x) (a .x) here)
 
 -- src/lib.rt:348:13
 leaf-of-shared-slice-read-v : (t : ℕ) → leaf-of-lts.Need-shared-slice-read-v (
@@ -44,11 +44,11 @@ leaf-of-shared-slice-read-v t c =
     let a = s .args in
     let w = now (a .w) in
     let here = s .pre .1 in
-    omega (arith, ask.in-words w (a .p) (a .k) (a .span) (a .x) (a .x) here)
+    omega (arith, ask.in-words w (a .at .0) (a .k) (a .span) (a .x) (a .x) here)
 
 -- src/lib.rt:350:34
 leaf-of-sub-t13 :
-    (t : ℕ) → leaf-of-lts.Need-sub-t13 (leaf-of-below t, leaf-of.Post) (leaf-of-at t) leaf-of.Post
+    (t : ℕ) → leaf-of-lts.Need-sub-t14 (leaf-of-below t, leaf-of.Post) (leaf-of-at t) leaf-of.Post
 leaf-of-sub-t13 t c =
     let s = c .before .before .before in
     let a = s .args in
@@ -64,11 +64,11 @@ leaf-of-returns t c =
     let a = s .args in
     let w = now (a .w) in
     let here = s .pre .1 in
-    (laws.whole-holds w (a .p) (a .k) (a .span) (a .x) here false (c .if1 .taken), (omega (arith, here .inside), omega (arith, here .inside)))
+    (laws.whole-holds w (a .at .0) (a .k) (a .span) (a .x) here false (c .if1 .taken), (omega (arith, here .inside), omega (arith, here .inside)))
 
 -- src/lib.rt:353:34
 leaf-of-sub-t14 :
-    (t : ℕ) → leaf-of-lts.Need-sub-t14 (leaf-of-below t, leaf-of.Post) (leaf-of-at t) leaf-of.Post
+    (t : ℕ) → leaf-of-lts.Need-sub-t15 (leaf-of-below t, leaf-of.Post) (leaf-of-at t) leaf-of.Post
 leaf-of-sub-t14 t c =
     let s = c .before .before .before .before in
     let a = s .args in
@@ -85,12 +85,12 @@ leaf-of-returns-2 t c =
     let a = s .args in
     let w = now (a .w) in
     let here = s .pre .1 in
-    (laws.whole-holds w (a .p) (a .k) (a .span) (a .x) here true (c .if2 .taken), (omega (arith, here .inside), omega (arith, here .inside)))
+    (laws.whole-holds w (a .at .0) (a .k) (a .span) (a .x) here true (c .if2 .taken), (omega (arith, here .inside), omega (arith, here .inside)))
 
 -- src/lib.rt:357:27
 leaf-of-add-leaf-of :
     (t : ℕ) →
-    leaf-of-lts.Need-add-leaf-of (leaf-of-below t, leaf-of.Post) (leaf-of-at t) leaf-of.Post
+    leaf-of-lts.Need-add-t16 (leaf-of-below t, leaf-of.Post) (leaf-of-at t) leaf-of.Post
 leaf-of-add-leaf-of t c =
     let e = c .before in
     let s = e .before .before .before .before in
@@ -99,7 +99,7 @@ leaf-of-add-leaf-of t c =
     let here = s .pre .1 in
     let n0 = e .before .if1 .left in
     let n1 = e .if2 .left in
-    omega (arith, ask.in-words w (a .p) (a .k) (a .span) (a .x) (a .x) here)
+    omega (arith, ask.in-words w (a .at .0) (a .k) (a .span) (a .x) (a .x) here)
 
 -- src/lib.rt:357:34
 leaf-of-sub-leaf-of :
@@ -113,7 +113,7 @@ leaf-of-sub-leaf-of t c =
     let here = s .pre .1 in
     let n0 = e .before .if1 .left in
     let n1 = e .if2 .left in
-    let deep = ask.deep w (a .p) (a .k) (a .span) (a .x) (a .x) here n0 n1 in
+    let deep = ask.deep w (a .at .0) (a .k) (a .span) (a .x) (a .x) here n0 n1 in
     omega arith
 
 -- src/lib.rt:357:9
@@ -129,7 +129,7 @@ leaf-of-leaf-of-requires t c κs =
     let here = s .pre .1 in
     let n0 = e .before .if1 .left in
     let n1 = e .if2 .left in
-    ((let deep = ask.deep w (a .p) (a .k) (a .span) (a .x) (a .x) here n0 n1 in omega (arith, s .pre .0)), ask.go-left-one w (a .p) (a .k) (a .span) (a .x) (a .x) here n0 n1 (c .if3 .taken))
+    ((let deep = ask.deep w (a .at .0) (a .k) (a .span) (a .x) (a .x) here n0 n1 in omega (arith, s .pre .0)), ask.go-left-one w (a .at .0) (a .k) (a .span) (a .x) (a .x) here n0 n1 (c .if3 .taken))
 
 -- src/lib.rt:357:9
 leaf-of-returns-3 :
@@ -143,12 +143,12 @@ leaf-of-returns-3 t c =
     let here = s .pre .1 in
     let n0 = e .before .if1 .left in
     let n1 = e .if2 .left in
-    (λ D h. laws.left-holds w (a .p) (a .k) (a .span) (a .x) here n0 n1 (c .before .if3 .taken) D h _ _ (c .leaf-of .ensures .0 D (ask.halves w (a .p) (a .k) (a .span) (a .x) (a .x) here n0 n1 D h .left)), (omega (arith, c .leaf-of .ensures .1 .0), omega (arith, c .leaf-of .ensures .1 .1)))
+    (λ D h. laws.left-holds w (a .at .0) (a .k) (a .span) (a .x) here n0 n1 (c .before .if3 .taken) D h _ _ (c .leaf-of .ensures .0 D (ask.halves w (a .at .0) (a .k) (a .span) (a .x) (a .x) here n0 n1 D h .left)), (omega (arith, c .leaf-of .ensures .1 .0), omega (arith, c .leaf-of .ensures .1 .1)))
 
 -- src/lib.rt:359:29
 leaf-of-cast-leaf-of :
     (t : ℕ) →
-    leaf-of-lts.Need-cast-leaf-of (leaf-of-below t, leaf-of.Post) (leaf-of-at t) leaf-of.Post
+    leaf-of-lts.Need-cast-t10 (leaf-of-below t, leaf-of.Post) (leaf-of-at t) leaf-of.Post
 leaf-of-cast-leaf-of t c =
     let e = c .before in
     let s = e .before .before .before .before in
@@ -157,12 +157,12 @@ leaf-of-cast-leaf-of t c =
     let here = s .pre .1 in
     let n0 = e .before .if1 .left in
     let n1 = e .if2 .left in
-    omega (arith, e .before .before .shared-slice-known2 .given (a .p))
+    omega (arith, e .before .before .shared-slice-known2 .given (a .at .0))
 
 -- src/lib.rt:359:24
 leaf-of-add-leaf-of-2 :
     (t : ℕ) →
-    leaf-of-lts.Need-add-leaf-of-2 (leaf-of-below t, leaf-of.Post) (leaf-of-at t) leaf-of.Post
+    leaf-of-lts.Need-add-t19 (leaf-of-below t, leaf-of.Post) (leaf-of-at t) leaf-of.Post
 leaf-of-add-leaf-of-2 t c =
     let e = c .before in
     let s = e .before .before .before .before in
@@ -171,12 +171,12 @@ leaf-of-add-leaf-of-2 t c =
     let here = s .pre .1 in
     let n0 = e .before .if1 .left in
     let n1 = e .if2 .left in
-    omega (arith, ask.right-in w (a .p) (a .k) (a .span) (a .x) (a .x) here n0 n1, s .good .0 .0)
+    omega (arith, ask.right-in w (a .at .0) (a .k) (a .span) (a .x) (a .x) here n0 n1, s .good .0 .0)
 
 -- src/lib.rt:359:24
 leaf-of-sub-leaf-of-2 :
     (t : ℕ) →
-    leaf-of-lts.Need-sub-leaf-of-2 (leaf-of-below t, leaf-of.Post) (leaf-of-at t) leaf-of.Post
+    leaf-of-lts.Need-sub-t20 (leaf-of-below t, leaf-of.Post) (leaf-of-at t) leaf-of.Post
 leaf-of-sub-leaf-of-2 t c =
     let e = c .before in
     let s = e .before .before .before .before in
@@ -190,7 +190,7 @@ leaf-of-sub-leaf-of-2 t c =
 -- src/lib.rt:359:46
 leaf-of-sub-leaf-of-3 :
     (t : ℕ) →
-    leaf-of-lts.Need-sub-leaf-of-3 (leaf-of-below t, leaf-of.Post) (leaf-of-at t) leaf-of.Post
+    leaf-of-lts.Need-sub-leaf-of-2 (leaf-of-below t, leaf-of.Post) (leaf-of-at t) leaf-of.Post
 leaf-of-sub-leaf-of-3 t c =
     let e = c .before in
     let s = e .before .before .before .before in
@@ -199,7 +199,7 @@ leaf-of-sub-leaf-of-3 t c =
     let here = s .pre .1 in
     let n0 = e .before .if1 .left in
     let n1 = e .if2 .left in
-    let deep = ask.deep w (a .p) (a .k) (a .span) (a .x) (a .x) here n0 n1 in
+    let deep = ask.deep w (a .at .0) (a .k) (a .span) (a .x) (a .x) here n0 n1 in
     omega arith
 
 -- src/lib.rt:359:9
@@ -215,11 +215,11 @@ leaf-of-leaf-of-requires-2 t c κs =
     let here = s .pre .1 in
     let n0 = e .before .if1 .left in
     let n1 = e .if2 .left in
-    ((let deep = ask.deep w (a .p) (a .k) (a .span) (a .x) (a .x) here n0 n1 in omega (arith, s .pre .0)), ask.go-right w (a .p) (a .k) (a .span) (a .x) (a .x) here n0 n1 (a .x - a .span / 2) (c .if3 .left) (omega arith))
+    ((let deep = ask.deep w (a .at .0) (a .k) (a .span) (a .x) (a .x) here n0 n1 in omega (arith, s .pre .0)), ask.go-right w (a .at .0) (a .k) (a .span) (a .x) (a .x) here n0 n1 (a .x - a .span / 2) (c .if3 .left) (omega arith))
 
 -- src/lib.rt:361:13
 leaf-of-add-t11 :
-    (t : ℕ) → leaf-of-lts.Need-add-t11 (leaf-of-below t, leaf-of.Post) (leaf-of-at t) leaf-of.Post
+    (t : ℕ) → leaf-of-lts.Need-add-t12 (leaf-of-below t, leaf-of.Post) (leaf-of-at t) leaf-of.Post
 leaf-of-add-t11 t c =
     let e = c .before .before .before in
     let s = e .before .before .before .before in
@@ -232,7 +232,7 @@ leaf-of-add-t11 t c =
 
 -- src/lib.rt:362:13
 leaf-of-add-t19 :
-    (t : ℕ) → leaf-of-lts.Need-add-t19 (leaf-of-below t, leaf-of.Post) (leaf-of-at t) leaf-of.Post
+    (t : ℕ) → leaf-of-lts.Need-add-t22 (leaf-of-below t, leaf-of.Post) (leaf-of-at t) leaf-of.Post
 leaf-of-add-t19 t c =
     let e = c .before .before .before .before in
     let s = e .before .before .before .before in
@@ -256,7 +256,7 @@ leaf-of-returns-4 t c =
     let n0 = e .before .if1 .left in
     let n1 = e .if2 .left in
     let f = c .before .before .leaf-of2 in
-    (λ D h. laws.right-holds w (a .p) (a .k) (a .span) (a .x) here n0 n1 (c .before .before .before .if3 .left) D h (f .result .lo) (f .result .hi) (f .ensures .0 (shift (2 ^ (a .k - 1)) D) (ask.right-at w (a .p) (a .k) (a .span) (a .x) (a .x) here n0 n1 D h)), (omega (arith, f .ensures .1), omega (arith, f .ensures .1)))
+    (λ D h. laws.right-holds w (a .at .0) (a .k) (a .span) (a .x) here n0 n1 (c .before .before .before .if3 .left) D h (f .result .lo) (f .result .hi) (f .ensures .0 (shift (2 ^ (a .k - 1)) D) (ask.right-at w (a .at .0) (a .k) (a .span) (a .x) (a .x) here n0 n1 D h)), (omega (arith, f .ensures .1), omega (arith, f .ensures .1)))
 
 pub +leaf-of-spec : {M : Type 1} → statement M
 +leaf-of-spec =

@@ -53,10 +53,10 @@ put-copy-requires t c κs =
     let w = now (a .w) in
     let o = now (a .out) in
     let here = s .pre .1 in
-    laws.none-room w (a .p) (a .n) (a .k) (a .span) (a .lo) (a .hi) (a .b) (length o) (a .q) here (c .before .if1 .taken)
+    laws.none-room w (a .at .0) (a .n) (a .k) (a .span) (a .lo) (a .hi) (a .b) (length o) (a .to .0) here (c .before .if1 .taken)
 
 -- src/lib.rt:218:16
-put-add-result : (t : ℕ) → put-lts.Need-add-result (
+put-add-result : (t : ℕ) → put-lts.Need-add-t23 (
   copy-reads.Asked,
   copy-reads.Learnt,
   after-reads.Asked,
@@ -76,7 +76,7 @@ put-add-result t c =
     let w = now (a .w) in
     let o = now (a .out) in
     let here = s .pre .1 in
-    omega (arith, laws.none-room w (a .p) (a .n) (a .k) (a .span) (a .lo) (a .hi) (a .b) (length o) (a .q) here (c .before .before .before .before .if1 .taken), s .good)
+    omega (arith, laws.none-room w (a .at .0) (a .n) (a .k) (a .span) (a .lo) (a .hi) (a .b) (length o) (a .to .0) here (c .before .before .before .before .if1 .taken), s .good)
 
 -- src/lib.rt:218:9
 put-same-length : (t : ℕ) → put-lts.Need-same-length (
@@ -116,7 +116,7 @@ put-returns t c =
     let w = now (a .w) in
     let o = now (a .out) in
     let here = s .pre .1 in
-    laws.none-wrote w (a .p) (a .n) (a .k) (a .span) (a .lo) (a .hi) (a .b) (length o) (a .q) here (c .before .before .before .before .if1 .taken) o _ (c .before .before .copy .ensures)
+    laws.none-wrote w (a .at .0) (a .n) (a .k) (a .span) (a .lo) (a .hi) (a .b) (length o) (a .to .0) here (c .before .before .before .before .if1 .taken) o _ (c .before .before .copy .ensures)
 
 -- src/lib.rt:220:18
 put-after-requires : (t : ℕ) → put-lts.Need-after-requires (
@@ -179,7 +179,7 @@ put-mul-out t c =
     let w = now (a .w) in
     let o = now (a .out) in
     let here = s .pre .1 in
-    omega (arith, laws.some-room w (a .p) (a .n) (a .k) (a .span) (a .lo) (a .hi) (a .b) (length o) (a .q) here, s .good)
+    omega (arith, laws.some-room w (a .at .0) (a .n) (a .k) (a .span) (a .lo) (a .hi) (a .b) (length o) (a .to .0) here, s .good)
 
 -- src/lib.rt:222:9
 put-slice-write-out : (t : ℕ) → put-lts.Need-slice-write-out (
@@ -202,10 +202,10 @@ put-slice-write-out t c =
     let w = now (a .w) in
     let o = now (a .out) in
     let here = s .pre .1 in
-    omega (arith, laws.some-room w (a .p) (a .n) (a .k) (a .span) (a .lo) (a .hi) (a .b) (length o) (a .q) here)
+    omega (arith, laws.some-room w (a .at .0) (a .n) (a .k) (a .span) (a .lo) (a .hi) (a .b) (length o) (a .to .0) here)
 
 -- src/lib.rt:223:16
-put-add-result-2 : (t : ℕ) → put-lts.Need-add-result-2 (
+put-add-result-2 : (t : ℕ) → put-lts.Need-add-t25 (
   copy-reads.Asked,
   copy-reads.Learnt,
   after-reads.Asked,
@@ -225,7 +225,7 @@ put-add-result-2 t c =
     let w = now (a .w) in
     let o = now (a .out) in
     let here = s .pre .1 in
-    omega (arith, laws.some-room w (a .p) (a .n) (a .k) (a .span) (a .lo) (a .hi) (a .b) (length o) (a .q) here, s .good)
+    omega (arith, laws.some-room w (a .at .0) (a .n) (a .k) (a .span) (a .lo) (a .hi) (a .b) (length o) (a .to .0) here, s .good)
 
 -- src/lib.rt:223:9
 put-same-length-2 : (t : ℕ) → put-lts.Need-same-length-2 (
@@ -265,7 +265,7 @@ put-returns-2 t c =
     let w = now (a .w) in
     let o = now (a .out) in
     let here = s .pre .1 in
-    λ D h. laws.leaf-wrote w (a .p) (a .n) (a .k) (a .span) (a .lo) (a .hi) (a .b) (length o) (a .q) here (c .before .kind .result) (c .if2 .taken) D (c .before .kind .ensures ∙ ap kindOf (c .before .before .after .ensures D h)) o
+    λ D h. laws.leaf-wrote w (a .at .0) (a .n) (a .k) (a .span) (a .lo) (a .hi) (a .b) (length o) (a .to .0) here (c .before .kind .result) (c .if2 .taken) D (c .before .kind .ensures ∙ ap kindOf (c .before .before .after .ensures D h)) o
 
 -- src/lib.rt:226:9
 put-halves-requires : (t : ℕ) → put-lts.Need-halves-requires (
@@ -292,7 +292,7 @@ put-halves-requires t c κs =
     let S = here .spot .set in
     let two : (D : ℕ → Bool) → _ → 2 ≤ kindOf (formOf (treeOf (a .k) (paint (a .b) (a .lo) (a .hi) D))) = λ D h. subst (λ (i : ℕ). 2 ≤ i) (f .before .kind .ensures ∙ ap kindOf (f .before .before .after .ensures D h)) (f .if2 .left) in
     let deep = laws.mixed-deep (a .k) (paint (a .b) (a .lo) (a .hi) S) (two S (here .spot .laid)) in
-    alaws.as-sub w (a .p) (a .n) (a .k) (a .span) (a .lo) (a .hi) (here .spot) deep
+    alaws.as-sub w (a .at .0) (a .n) (a .k) (a .span) (a .lo) (a .hi) (here .spot) deep
 
 -- src/lib.rt:227:9
 put-parted-requires : (t : ℕ) → put-lts.Need-parted-requires (
@@ -319,7 +319,7 @@ put-parted-requires t c κs =
     let S = here .spot .set in
     let two : (D : ℕ → Bool) → _ → 2 ≤ kindOf (formOf (treeOf (a .k) (paint (a .b) (a .lo) (a .hi) D))) = λ D h. subst (λ (i : ℕ). 2 ≤ i) (f .before .kind .ensures ∙ ap kindOf (f .before .before .after .ensures D h)) (f .if2 .left) in
     let deep = laws.mixed-deep (a .k) (paint (a .b) (a .lo) (a .hi) S) (two S (here .spot .laid)) in
-    alaws.half-pos w (a .p) (a .n) (a .k) (a .span) (a .lo) (a .hi) (here .spot) deep
+    alaws.half-pos w (a .at .0) (a .n) (a .k) (a .span) (a .lo) (a .hi) (here .spot) deep
 
 -- src/lib.rt:228:32
 put-sub-put : (t : ℕ) → put-lts.Need-sub-put (
@@ -352,7 +352,7 @@ put-sub-put t c =
     omega arith
 
 -- src/lib.rt:228:67
-put-add-put : (t : ℕ) → put-lts.Need-add-put (
+put-add-put : (t : ℕ) → put-lts.Need-add-out (
   copy-reads.Asked,
   copy-reads.Learnt,
   after-reads.Asked,
@@ -379,7 +379,7 @@ put-add-put t c =
     let g = c .before in
     let h = g .before .halves .result in
     let r = g .parted .result in
-    omega (arith, laws.some-room w (a .p) (a .n) (a .k) (a .span) (a .lo) (a .hi) (a .b) (length o) (a .q) here, s .good)
+    omega (arith, laws.some-room w (a .at .0) (a .n) (a .k) (a .span) (a .lo) (a .hi) (a .b) (length o) (a .to .0) here, s .good)
 
 -- src/lib.rt:228:9
 put-put-requires : (t : ℕ) → put-lts.Need-put-requires (
@@ -409,7 +409,7 @@ put-put-requires t c κs =
     let g = c .before in
     let h = g .before .halves .result in
     let r = g .parted .result in
-    (omega (arith, s .pre .0), laws.left-fill w (a .p) (a .n) (a .k) (a .span) (a .lo) (a .hi) (a .b) (length o) (a .q) here deep (h .lp) (h .ln) (h .rp) (h .rn) (g .before .halves .ensures) (r .llo) (r .lhi) (r .rlo) (r .rhi) (g .parted .ensures) (two S (here .spot .laid)))
+    (omega (arith, s .pre .0), laws.left-fill w (a .at .0) (a .n) (a .k) (a .span) (a .lo) (a .hi) (a .b) (length o) (a .to .0) here deep (h .lp .0) (h .ln) (h .rp .0) (h .rn) (g .before .halves .ensures) (r .llo) (r .lhi) (r .rlo) (r .rhi) (g .parted .ensures) (two S (here .spot .laid)))
 
 -- src/lib.rt:229:15
 put-sub-out : (t : ℕ) → put-lts.Need-sub-out (
@@ -440,13 +440,13 @@ put-sub-out t c =
     let h = g .before .halves .result in
     let r = g .parted .result in
     let u = c .before .before .put in
-    let m = alaws.mine w (a .p) (a .n) (a .k) (a .span) (a .lo) (a .hi) (here .spot) deep (h .lp) (h .ln) (h .rp) (h .rn) (g .before .halves .ensures) (r .llo) (r .lhi) (r .rlo) (r .rhi) (g .parted .ensures) in
+    let m = alaws.mine w (a .at .0) (a .n) (a .k) (a .span) (a .lo) (a .hi) (here .spot) deep (h .lp .0) (h .ln) (h .rp .0) (h .rn) (g .before .halves .ensures) (r .llo) (r .lhi) (r .rlo) (r .rhi) (g .parted .ensures) in
     let x = u .ensures S (m .left) in
-    let few = laws.left-few w (a .p) (a .n) (a .k) (a .span) (a .lo) (a .hi) (a .b) (length o) (a .q) here deep (h .lp) (h .ln) (h .rp) (h .rn) (g .before .halves .ensures) (r .llo) (r .lhi) (r .rlo) (r .rhi) (g .parted .ensures) (two S (here .spot .laid)) in
+    let few = laws.left-few w (a .at .0) (a .n) (a .k) (a .span) (a .lo) (a .hi) (a .b) (length o) (a .to .0) here deep (h .lp .0) (h .ln) (h .rp .0) (h .rn) (g .before .halves .ensures) (r .llo) (r .lhi) (r .rlo) (r .rhi) (g .parted .ensures) (two S (here .spot .laid)) in
     omega (arith, x .next)
 
 -- src/lib.rt:229:15
-put-add-out : (t : ℕ) → put-lts.Need-add-out (
+put-add-out : (t : ℕ) → put-lts.Need-add-out-2 (
   copy-reads.Asked,
   copy-reads.Learnt,
   after-reads.Asked,
@@ -474,9 +474,9 @@ put-add-out t c =
     let h = g .before .halves .result in
     let r = g .parted .result in
     let u = c .before .before .put in
-    let m = alaws.mine w (a .p) (a .n) (a .k) (a .span) (a .lo) (a .hi) (here .spot) deep (h .lp) (h .ln) (h .rp) (h .rn) (g .before .halves .ensures) (r .llo) (r .lhi) (r .rlo) (r .rhi) (g .parted .ensures) in
+    let m = alaws.mine w (a .at .0) (a .n) (a .k) (a .span) (a .lo) (a .hi) (here .spot) deep (h .lp .0) (h .ln) (h .rp .0) (h .rn) (g .before .halves .ensures) (r .llo) (r .lhi) (r .rlo) (r .rhi) (g .parted .ensures) in
     let x = u .ensures S (m .left) in
-    let few = laws.left-few w (a .p) (a .n) (a .k) (a .span) (a .lo) (a .hi) (a .b) (length o) (a .q) here deep (h .lp) (h .ln) (h .rp) (h .rn) (g .before .halves .ensures) (r .llo) (r .lhi) (r .rlo) (r .rhi) (g .parted .ensures) (two S (here .spot .laid)) in
+    let few = laws.left-few w (a .at .0) (a .n) (a .k) (a .span) (a .lo) (a .hi) (a .b) (length o) (a .to .0) here deep (h .lp .0) (h .ln) (h .rp .0) (h .rn) (g .before .halves .ensures) (r .llo) (r .lhi) (r .rlo) (r .rhi) (g .parted .ensures) (two S (here .spot .laid)) in
     omega (arith, x .next)
 
 -- src/lib.rt:229:14
@@ -508,9 +508,9 @@ put-cast-out t c =
     let h = g .before .halves .result in
     let r = g .parted .result in
     let u = c .before .before .put in
-    let m = alaws.mine w (a .p) (a .n) (a .k) (a .span) (a .lo) (a .hi) (here .spot) deep (h .lp) (h .ln) (h .rp) (h .rn) (g .before .halves .ensures) (r .llo) (r .lhi) (r .rlo) (r .rhi) (g .parted .ensures) in
+    let m = alaws.mine w (a .at .0) (a .n) (a .k) (a .span) (a .lo) (a .hi) (here .spot) deep (h .lp .0) (h .ln) (h .rp .0) (h .rn) (g .before .halves .ensures) (r .llo) (r .lhi) (r .rlo) (r .rhi) (g .parted .ensures) in
     let x = u .ensures S (m .left) in
-    let few = laws.left-few w (a .p) (a .n) (a .k) (a .span) (a .lo) (a .hi) (a .b) (length o) (a .q) here deep (h .lp) (h .ln) (h .rp) (h .rn) (g .before .halves .ensures) (r .llo) (r .lhi) (r .rlo) (r .rhi) (g .parted .ensures) (two S (here .spot .laid)) in
+    let few = laws.left-few w (a .at .0) (a .n) (a .k) (a .span) (a .lo) (a .hi) (a .b) (length o) (a .to .0) here deep (h .lp .0) (h .ln) (h .rp .0) (h .rn) (g .before .halves .ensures) (r .llo) (r .lhi) (r .rlo) (r .rhi) (g .parted .ensures) (two S (here .spot .laid)) in
     omega (arith, x .next)
 
 -- src/lib.rt:229:5
@@ -542,10 +542,10 @@ put-mul-out-2 t c =
     let h = g .before .halves .result in
     let r = g .parted .result in
     let u = c .before .before .put in
-    let m = alaws.mine w (a .p) (a .n) (a .k) (a .span) (a .lo) (a .hi) (here .spot) deep (h .lp) (h .ln) (h .rp) (h .rn) (g .before .halves .ensures) (r .llo) (r .lhi) (r .rlo) (r .rhi) (g .parted .ensures) in
+    let m = alaws.mine w (a .at .0) (a .n) (a .k) (a .span) (a .lo) (a .hi) (here .spot) deep (h .lp .0) (h .ln) (h .rp .0) (h .rn) (g .before .halves .ensures) (r .llo) (r .lhi) (r .rlo) (r .rhi) (g .parted .ensures) in
     let x = u .ensures S (m .left) in
-    let few = laws.left-few w (a .p) (a .n) (a .k) (a .span) (a .lo) (a .hi) (a .b) (length o) (a .q) here deep (h .lp) (h .ln) (h .rp) (h .rn) (g .before .halves .ensures) (r .llo) (r .lhi) (r .rlo) (r .rhi) (g .parted .ensures) (two S (here .spot .laid)) in
-    omega (arith, laws.some-room w (a .p) (a .n) (a .k) (a .span) (a .lo) (a .hi) (a .b) (length o) (a .q) here, s .good)
+    let few = laws.left-few w (a .at .0) (a .n) (a .k) (a .span) (a .lo) (a .hi) (a .b) (length o) (a .to .0) here deep (h .lp .0) (h .ln) (h .rp .0) (h .rn) (g .before .halves .ensures) (r .llo) (r .lhi) (r .rlo) (r .rhi) (g .parted .ensures) (two S (here .spot .laid)) in
+    omega (arith, laws.some-room w (a .at .0) (a .n) (a .k) (a .span) (a .lo) (a .hi) (a .b) (length o) (a .to .0) here, s .good)
 
 -- src/lib.rt:229:5
 put-slice-write-out-2 : (t : ℕ) → put-lts.Need-slice-write-out-2 (
@@ -576,10 +576,10 @@ put-slice-write-out-2 t c =
     let h = g .before .halves .result in
     let r = g .parted .result in
     let u = c .before .before .put in
-    let m = alaws.mine w (a .p) (a .n) (a .k) (a .span) (a .lo) (a .hi) (here .spot) deep (h .lp) (h .ln) (h .rp) (h .rn) (g .before .halves .ensures) (r .llo) (r .lhi) (r .rlo) (r .rhi) (g .parted .ensures) in
+    let m = alaws.mine w (a .at .0) (a .n) (a .k) (a .span) (a .lo) (a .hi) (here .spot) deep (h .lp .0) (h .ln) (h .rp .0) (h .rn) (g .before .halves .ensures) (r .llo) (r .lhi) (r .rlo) (r .rhi) (g .parted .ensures) in
     let x = u .ensures S (m .left) in
-    let few = laws.left-few w (a .p) (a .n) (a .k) (a .span) (a .lo) (a .hi) (a .b) (length o) (a .q) here deep (h .lp) (h .ln) (h .rp) (h .rn) (g .before .halves .ensures) (r .llo) (r .lhi) (r .rlo) (r .rhi) (g .parted .ensures) (two S (here .spot .laid)) in
-    omega (arith, laws.some-room w (a .p) (a .n) (a .k) (a .span) (a .lo) (a .hi) (a .b) (length o) (a .q) here, u .kept .1 .1 .1 .1 .1 .1 .1 .1 .0)
+    let few = laws.left-few w (a .at .0) (a .n) (a .k) (a .span) (a .lo) (a .hi) (a .b) (length o) (a .to .0) here deep (h .lp .0) (h .ln) (h .rp .0) (h .rn) (g .before .halves .ensures) (r .llo) (r .lhi) (r .rlo) (r .rhi) (g .parted .ensures) (two S (here .spot .laid)) in
+    omega (arith, laws.some-room w (a .at .0) (a .n) (a .k) (a .span) (a .lo) (a .hi) (a .b) (length o) (a .to .0) here, u .kept .1 .1 .1 .1 .1 .1 .1 .1 .0)
 
 -- src/lib.rt:230:24
 put-sub-put-2 : (t : ℕ) → put-lts.Need-sub-put-2 (
@@ -610,9 +610,9 @@ put-sub-put-2 t c =
     let h = g .before .halves .result in
     let r = g .parted .result in
     let u = c .before .before .put in
-    let m = alaws.mine w (a .p) (a .n) (a .k) (a .span) (a .lo) (a .hi) (here .spot) deep (h .lp) (h .ln) (h .rp) (h .rn) (g .before .halves .ensures) (r .llo) (r .lhi) (r .rlo) (r .rhi) (g .parted .ensures) in
+    let m = alaws.mine w (a .at .0) (a .n) (a .k) (a .span) (a .lo) (a .hi) (here .spot) deep (h .lp .0) (h .ln) (h .rp .0) (h .rn) (g .before .halves .ensures) (r .llo) (r .lhi) (r .rlo) (r .rhi) (g .parted .ensures) in
     let x = u .ensures S (m .left) in
-    let few = laws.left-few w (a .p) (a .n) (a .k) (a .span) (a .lo) (a .hi) (a .b) (length o) (a .q) here deep (h .lp) (h .ln) (h .rp) (h .rn) (g .before .halves .ensures) (r .llo) (r .lhi) (r .rlo) (r .rhi) (g .parted .ensures) (two S (here .spot .laid)) in
+    let few = laws.left-few w (a .at .0) (a .n) (a .k) (a .span) (a .lo) (a .hi) (a .b) (length o) (a .to .0) here deep (h .lp .0) (h .ln) (h .rp .0) (h .rn) (g .before .halves .ensures) (r .llo) (r .lhi) (r .rlo) (r .rhi) (g .parted .ensures) (two S (here .spot .laid)) in
     omega arith
 
 -- src/lib.rt:230:5
@@ -644,10 +644,10 @@ put-put-requires-2 t c κs =
     let h = g .before .halves .result in
     let r = g .parted .result in
     let u = c .before .before .before .put in
-    let m = alaws.mine w (a .p) (a .n) (a .k) (a .span) (a .lo) (a .hi) (here .spot) deep (h .lp) (h .ln) (h .rp) (h .rn) (g .before .halves .ensures) (r .llo) (r .lhi) (r .rlo) (r .rhi) (g .parted .ensures) in
+    let m = alaws.mine w (a .at .0) (a .n) (a .k) (a .span) (a .lo) (a .hi) (here .spot) deep (h .lp .0) (h .ln) (h .rp .0) (h .rn) (g .before .halves .ensures) (r .llo) (r .lhi) (r .rlo) (r .rhi) (g .parted .ensures) in
     let x = u .ensures S (m .left) in
-    let few = laws.left-few w (a .p) (a .n) (a .k) (a .span) (a .lo) (a .hi) (a .b) (length o) (a .q) here deep (h .lp) (h .ln) (h .rp) (h .rn) (g .before .halves .ensures) (r .llo) (r .lhi) (r .rlo) (r .rhi) (g .parted .ensures) (two S (here .spot .laid)) in
-    (omega (arith, s .pre .0), subst (λ (l : ℕ). Fill w (h .rp) (h .rn) (a .k - 1) (a .span / 2) (r .rlo) (r .rhi) (a .b) l (u .result)) (sym (length-set (u .last .1 .1 .1 .1 .1 .1 .1 .1 .0) (a .q) (u .result - a .q + 1) ∙ u .kept .1 .1 .1 .1 .1 .1 .1 .1 .0)) (laws.right-fill w (a .p) (a .n) (a .k) (a .span) (a .lo) (a .hi) (a .b) (length o) (a .q) here deep (h .lp) (h .ln) (h .rp) (h .rn) (g .before .halves .ensures) (r .llo) (r .lhi) (r .rlo) (r .rhi) (g .parted .ensures) (two S (here .spot .laid)) (u .result) (x .next)))
+    let few = laws.left-few w (a .at .0) (a .n) (a .k) (a .span) (a .lo) (a .hi) (a .b) (length o) (a .to .0) here deep (h .lp .0) (h .ln) (h .rp .0) (h .rn) (g .before .halves .ensures) (r .llo) (r .lhi) (r .rlo) (r .rhi) (g .parted .ensures) (two S (here .spot .laid)) in
+    (omega (arith, s .pre .0), subst (λ (l : ℕ). Fill w (h .rp .0) (h .rn) (a .k - 1) (a .span / 2) (r .rlo) (r .rhi) (a .b) l (u .result .0)) (sym (length-set (u .last .1 .1 .1 .1 .1 .1 .1 .1 .0) (a .to .0) (u .result .0 - a .to .0 + 1) ∙ u .kept .1 .1 .1 .1 .1 .1 .1 .1 .0)) (laws.right-fill w (a .at .0) (a .n) (a .k) (a .span) (a .lo) (a .hi) (a .b) (length o) (a .to .0) here deep (h .lp .0) (h .ln) (h .rp .0) (h .rn) (g .before .halves .ensures) (r .llo) (r .lhi) (r .rlo) (r .rhi) (g .parted .ensures) (two S (here .spot .laid)) (u .result .0) (x .next)))
 
 -- src/lib.rt:212:1
 put-same-length-3 : (t : ℕ) → put-lts.Need-same-length-3 (
@@ -678,10 +678,10 @@ put-same-length-3 t c =
     let h = g .before .halves .result in
     let r = g .parted .result in
     let u = c .before .before .before .before .before .before .put in
-    let m = alaws.mine w (a .p) (a .n) (a .k) (a .span) (a .lo) (a .hi) (here .spot) deep (h .lp) (h .ln) (h .rp) (h .rn) (g .before .halves .ensures) (r .llo) (r .lhi) (r .rlo) (r .rhi) (g .parted .ensures) in
+    let m = alaws.mine w (a .at .0) (a .n) (a .k) (a .span) (a .lo) (a .hi) (here .spot) deep (h .lp .0) (h .ln) (h .rp .0) (h .rn) (g .before .halves .ensures) (r .llo) (r .lhi) (r .rlo) (r .rhi) (g .parted .ensures) in
     let x = u .ensures S (m .left) in
-    let few = laws.left-few w (a .p) (a .n) (a .k) (a .span) (a .lo) (a .hi) (a .b) (length o) (a .q) here deep (h .lp) (h .ln) (h .rp) (h .rn) (g .before .halves .ensures) (r .llo) (r .lhi) (r .rlo) (r .rhi) (g .parted .ensures) (two S (here .spot .laid)) in
-    c .before .before .put2 .kept .1 .1 .1 .1 .1 .1 .1 .1 .0 ∙ length-set (u .last .1 .1 .1 .1 .1 .1 .1 .1 .0) (a .q) (u .result - a .q + 1) ∙ u .kept .1 .1 .1 .1 .1 .1 .1 .1 .0
+    let few = laws.left-few w (a .at .0) (a .n) (a .k) (a .span) (a .lo) (a .hi) (a .b) (length o) (a .to .0) here deep (h .lp .0) (h .ln) (h .rp .0) (h .rn) (g .before .halves .ensures) (r .llo) (r .lhi) (r .rlo) (r .rhi) (g .parted .ensures) (two S (here .spot .laid)) in
+    c .before .before .put2 .kept .1 .1 .1 .1 .1 .1 .1 .1 .0 ∙ length-set (u .last .1 .1 .1 .1 .1 .1 .1 .1 .0) (a .to .0) (u .result .0 - a .to .0 + 1) ∙ u .kept .1 .1 .1 .1 .1 .1 .1 .1 .0
 
 -- src/lib.rt:212:1
 put-returns-3 : (t : ℕ) → put-lts.Need-returns-3 (
@@ -712,10 +712,10 @@ put-returns-3 t c =
     let h = g .before .halves .result in
     let r = g .parted .result in
     let u = c .before .before .before .before .before .before .put in
-    let m = alaws.mine w (a .p) (a .n) (a .k) (a .span) (a .lo) (a .hi) (here .spot) deep (h .lp) (h .ln) (h .rp) (h .rn) (g .before .halves .ensures) (r .llo) (r .lhi) (r .rlo) (r .rhi) (g .parted .ensures) in
+    let m = alaws.mine w (a .at .0) (a .n) (a .k) (a .span) (a .lo) (a .hi) (here .spot) deep (h .lp .0) (h .ln) (h .rp .0) (h .rn) (g .before .halves .ensures) (r .llo) (r .lhi) (r .rlo) (r .rhi) (g .parted .ensures) in
     let x = u .ensures S (m .left) in
-    let few = laws.left-few w (a .p) (a .n) (a .k) (a .span) (a .lo) (a .hi) (a .b) (length o) (a .q) here deep (h .lp) (h .ln) (h .rp) (h .rn) (g .before .halves .ensures) (r .llo) (r .lhi) (r .rlo) (r .rhi) (g .parted .ensures) (two S (here .spot .laid)) in
-    λ D at. let v = g .before .halves .ensures D at in laws.node-wrote w (a .p) (a .n) (a .k) (a .span) (a .lo) (a .hi) (a .b) (length o) (a .q) here deep (h .lp) (h .ln) (h .rp) (h .rn) (g .before .halves .ensures) (r .llo) (r .lhi) (r .rlo) (r .rhi) (g .parted .ensures) D (two D at) o (u .last .1 .1 .1 .1 .1 .1 .1 .1 .0) _ (u .result) (c .before .before .put2 .result) (u .ensures D (v .left)) (c .before .before .put2 .ensures (shift (2 ^ (a .k - 1)) D) (v .right))
+    let few = laws.left-few w (a .at .0) (a .n) (a .k) (a .span) (a .lo) (a .hi) (a .b) (length o) (a .to .0) here deep (h .lp .0) (h .ln) (h .rp .0) (h .rn) (g .before .halves .ensures) (r .llo) (r .lhi) (r .rlo) (r .rhi) (g .parted .ensures) (two S (here .spot .laid)) in
+    λ D at. let v = g .before .halves .ensures D at in laws.node-wrote w (a .at .0) (a .n) (a .k) (a .span) (a .lo) (a .hi) (a .b) (length o) (a .to .0) here deep (h .lp .0) (h .ln) (h .rp .0) (h .rn) (g .before .halves .ensures) (r .llo) (r .lhi) (r .rlo) (r .rhi) (g .parted .ensures) D (two D at) o (u .last .1 .1 .1 .1 .1 .1 .1 .1 .0) _ (u .result .0) (c .before .before .put2 .result .0) (u .ensures D (v .left)) (c .before .before .put2 .ensures (shift (2 ^ (a .k - 1)) D) (v .right))
 
 pub +put-spec : {M : Type 1} → statement M
 +put-spec = close μ-put λ t. put-lts.spec (

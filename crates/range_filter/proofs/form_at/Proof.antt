@@ -17,7 +17,7 @@ mul-v c =
     let a = s .args in
     let w = now (a .w) in
     let here = s .pre .0 in
-    omega (arith, base.at-in w (a .p) (here .tree) (here .laid))
+    omega (arith, base.at-in w (a .at .0) (here .tree) (here .laid))
 
 -- src/lib.rt:124:13
 shared-slice-read-v : tie.Need-shared-slice-read-v
@@ -26,7 +26,7 @@ shared-slice-read-v c =
     let a = s .args in
     let w = now (a .w) in
     let here = s .pre .0 in
-    omega (arith, base.at-in w (a .p) (here .tree) (here .laid))
+    omega (arith, base.at-in w (a .at .0) (here .tree) (here .laid))
 
 -- src/lib.rt:126:9
 returns : tie.Need-returns
@@ -35,7 +35,7 @@ returns c =
     let a = s .args in
     let w = now (a .w) in
     let here = s .pre .0 in
-    laws.form-leaf w (a .p) false (c .if1 .taken)
+    laws.form-leaf w (a .at .0) false (c .if1 .taken)
 
 -- src/lib.rt:129:9
 returns-2 : tie.Need-returns-2
@@ -44,10 +44,10 @@ returns-2 c =
     let a = s .args in
     let w = now (a .w) in
     let here = s .pre .0 in
-    laws.form-leaf w (a .p) true (c .if2 .taken)
+    laws.form-leaf w (a .at .0) true (c .if2 .taken)
 
 -- src/lib.rt:131:17
-cast-t7 : tie.Need-cast-t7
+cast-t7 : tie.Need-cast-t8
 cast-t7 c = search needs
 
 -- src/lib.rt:120:1
@@ -57,7 +57,7 @@ returns-3 c =
     let a = s .args in
     let w = now (a .w) in
     let here = s .pre .0 in
-    laws.form-node w (a .p) (a .n) here (c .before .if1 .left) (c .if2 .left)
+    laws.form-node w (a .at .0) (a .n) here (c .before .if1 .left) (c .if2 .left)
 
 pub form-at-spec : {M : Type 1} → statement M
 form-at-spec = tie.close (tie.spec mul-v shared-slice-read-v returns returns-2 cast-t7 returns-3)

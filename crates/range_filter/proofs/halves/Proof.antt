@@ -18,7 +18,7 @@ mul-v c =
     let a = s .args in
     let w = now (a .w) in
     let here = s .pre in
-    omega (arith, base.at-in w (a .p) (treeOf (a .k) (here .set)) (here .laid))
+    omega (arith, base.at-in w (a .at .0) (treeOf (a .k) (here .set)) (here .laid))
 
 -- src/lib.rt:139:13
 shared-slice-read-v : tie.Need-shared-slice-read-v
@@ -27,7 +27,7 @@ shared-slice-read-v c =
     let a = s .args in
     let w = now (a .w) in
     let here = s .pre in
-    omega (arith, base.at-in w (a .p) (treeOf (a .k) (here .set)) (here .laid))
+    omega (arith, base.at-in w (a .at .0) (treeOf (a .k) (here .set)) (here .laid))
 
 -- src/lib.rt:139:13
 cast-v : tie.Need-cast-v
@@ -36,7 +36,7 @@ cast-v c =
     let a = s .args in
     let w = now (a .w) in
     let here = s .pre in
-    omega (arith, c .shared-slice-known .given (a .p))
+    omega (arith, c .shared-slice-known .given (a .at .0))
 
 -- src/lib.rt:141:9
 returns : tie.Need-returns
@@ -45,47 +45,47 @@ returns c =
     let a = s .args in
     let w = now (a .w) in
     let here = s .pre in
-    laws.halved-leaf w (a .p) (a .n) (a .k) here (c .if1 .taken)
+    laws.halved-leaf w (a .at .0) (a .n) (a .k) here (c .if1 .taken)
 
 -- src/lib.rt:143:16
-add-t6 : tie.Need-add-t6
+add-t6 : tie.Need-add-t7
 add-t6 c =
     let s = c .before .before in
     let a = s .args in
     let w = now (a .w) in
     let here = s .pre in
-    omega (arith, laws.node-room w (a .p) (a .n) (a .k) here (c .if1 .left), base.at-in w (a .p) (treeOf (a .k) (here .set)) (here .laid), s .good .0 .0)
+    omega (arith, laws.node-room w (a .at .0) (a .n) (a .k) here (c .if1 .left), base.at-in w (a .at .0) (treeOf (a .k) (here .set)) (here .laid), s .good .0 .0)
 
 -- src/lib.rt:143:38
-add-t11 : tie.Need-add-t11
+add-t11 : tie.Need-add-t13
 add-t11 c =
     let s = c .before .before in
     let a = s .args in
     let w = now (a .w) in
     let here = s .pre in
-    omega (arith, laws.node-room w (a .p) (a .n) (a .k) here (c .if1 .left), base.at-in w (a .p) (treeOf (a .k) (here .set)) (here .laid), s .good .0 .0)
+    omega (arith, laws.node-room w (a .at .0) (a .n) (a .k) here (c .if1 .left), base.at-in w (a .at .0) (treeOf (a .k) (here .set)) (here .laid), s .good .0 .0)
 
 -- src/lib.rt:143:38
-sub-t12 : tie.Need-sub-t12
+sub-t12 : tie.Need-sub-t14
 sub-t12 c = search needs
 
 -- src/lib.rt:143:53
-add-t13 : tie.Need-add-t13
+add-t13 : tie.Need-add-t16
 add-t13 c =
     let s = c .before .before in
     let a = s .args in
     let w = now (a .w) in
     let here = s .pre in
-    omega (arith, laws.node-room w (a .p) (a .n) (a .k) here (c .if1 .left), base.at-in w (a .p) (treeOf (a .k) (here .set)) (here .laid), s .good .0 .0)
+    omega (arith, laws.node-room w (a .at .0) (a .n) (a .k) here (c .if1 .left), base.at-in w (a .at .0) (treeOf (a .k) (here .set)) (here .laid), s .good .0 .0)
 
 -- src/lib.rt:143:53
-sub-t14 : tie.Need-sub-t14
+sub-t14 : tie.Need-sub-t17
 sub-t14 c =
     let s = c .before .before in
     let a = s .args in
     let w = now (a .w) in
     let here = s .pre in
-    omega (arith, laws.node-room w (a .p) (a .n) (a .k) here (c .if1 .left), base.at-in w (a .p) (treeOf (a .k) (here .set)) (here .laid), s .good .0 .0)
+    omega (arith, laws.node-room w (a .at .0) (a .n) (a .k) here (c .if1 .left), base.at-in w (a .at .0) (treeOf (a .k) (here .set)) (here .laid), s .good .0 .0)
 
 -- src/lib.rt:135:1
 returns-2 : tie.Need-returns-2
@@ -94,7 +94,7 @@ returns-2 c =
     let a = s .args in
     let w = now (a .w) in
     let here = s .pre in
-    laws.halved-node w (a .p) (a .n) (a .k) here (c .if1 .left)
+    laws.halved-node w (a .at .0) (a .n) (a .k) here (c .if1 .left)
 
 pub halves-spec : {M : Type 1} → statement M
 halves-spec =
