@@ -1,0 +1,9 @@
+-- The definitions of the filter part: what a reader must believe, then what the code's own steps are told and answer.
+pub mod Tree
+pub mod Layout
+pub mod Calls
+pub mod Examples
+pub mod Place
+pub mod Seen
+pub mod Form
+pub mod Found
