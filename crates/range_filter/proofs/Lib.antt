@@ -12,4 +12,3 @@ pub mod OneTree
 pub mod LayoutLaws
 pub mod Bound
 pub mod ForgetLaws
-pub mod Examples

@@ -2,7 +2,6 @@
 pub mod Tree
 pub mod Layout
 pub mod Calls
-pub mod Examples
 pub mod Place
 pub mod Seen
 pub mod Form

@@ -271,7 +271,18 @@ fn put(
     let half = span / 2;
     let c = halves(w, at, n, k);
     let g = parted(half, lo, hi);
-    let next = put(w, c.lp, c.ln, k - 1, half, g.llo, g.lhi, b, out, Node(q + 1));
+    let next = put(
+        w,
+        c.lp,
+        c.ln,
+        k - 1,
+        half,
+        g.llo,
+        g.lhi,
+        b,
+        out,
+        Node(q + 1),
+    );
     let e = next.0;
     out[q] = (e - q + 1) as u32;
     put(w, c.rp, c.rn, k - 1, half, g.rlo, g.rhi, b, out, next)
