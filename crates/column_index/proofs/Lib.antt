@@ -1,3 +1,4 @@
 pub mod SearchLaws
 pub mod BuiltLaws
 pub mod RowsLaws
+pub mod PromiseLaws

@@ -1,1 +1,48 @@
 // The index part: build, pack, unpack and range search over a lent column.
+
+// What build answers: the lengths of the three parts; a column that is too long; or the first space that is too short, with the length needed.
+pub enum BuildAnswer {
+    Done {
+        borders: usize,
+        imprints: usize,
+        dictionary: usize,
+    },
+    TooLong,
+    BordersShort(usize),
+    ImprintsShort(usize),
+    DictionaryShort(usize),
+}
+
+// What pack answers: the lengths of the two parts, or why not.
+pub enum PackAnswer {
+    Done { imprints: usize, dictionary: usize },
+    TooLong,
+    BadBorders,
+    Unfit,
+    ImprintsShort(usize),
+    DictionaryShort(usize),
+}
+
+// What unpack answers: how many imprints it listed, or why not.
+pub enum UnpackAnswer {
+    Done(usize),
+    TooLong,
+    BadBorders,
+    NoIndex,
+    Short(usize),
+}
+
+// What a range search answers: how many rows it listed, lines skipped, lines whole and values compared; or why not.
+pub enum SearchAnswer {
+    Done {
+        rows: usize,
+        skipped: usize,
+        whole: usize,
+        compared: usize,
+    },
+    TooLong,
+    BadBorders,
+    NoIndex,
+    LowAboveHigh,
+    Short(usize),
+}

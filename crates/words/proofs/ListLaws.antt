@@ -5,12 +5,12 @@ use mathlib.Core.List.{List, [], _∷_, _++_, map, append-nil, append-assoc}
 use mathlib.Core.Bool.{Bool, true, false, _&&_, and-eq-true-iff, false≢true}
 use lib.Dec.{leb, eqb}
 use borrow.Author.Tests.{leb-true, leb-false, eq-eqb, eqb-true}
-use native.Mathlib.Nat.{div-eq-of-lt, add-div-left, mul-zero, mul-suc, suc-mul}
+use native.Mathlib.Nat.{div-eq-of-lt, add-div-left, mul-zero, mul-suc, suc-mul, zero-add}
 use native.Mathlib.Omega.{arith}
 use native.Mathlib.Numerals.{add-one}
 use lib.ListN.{length, take, drop, length-append, take-append-drop, length-drop, length-map}
-use lib.Seq.{take-all, take-at, drop-append-add, drop-at, length-take-le}
-use Rattle.words.specs.Lists.{from, ceil, pieces, joined, every, same}
+use lib.Seq.{take-all, take-at, drop-append-add, drop-at, length-take-le, take-append-seam, sets, sets-eq}
+use Rattle.words.specs.Lists.{from, ceil, pieces, joined, every, same, filled, after}
 
 pub ceil-zero : (k : ℕ) → 0 < k → ceil 0 k ≡ 0
 ceil-zero k h = div-eq-of-lt (omega arith)
@@ -127,3 +127,20 @@ same-eq (x ∷ xs) [] h = absurd (false≢true h)
 same-eq (x ∷ xs) (y ∷ ys) h =
     let k = and-eq-true-iff (eqb x y) (same xs ys) .0 h in
     λ i. eqb-true x y (k .0) i ∷ same-eq xs ys (k .1) i
+
+-- ---- lent spaces
+
+-- an answer other than 0 changes nothing
+pub after-keeps {ℓ} : {A : Type ℓ} (n : ℕ) (xs l : List A) → (n ≡ 0 → ⊥) → after n xs l ≡ l
+after-keeps zero xs l h = absurd (h refl)
+after-keeps (suc n) xs l h = refl
+
+-- the front of a filled space is what it was filled with
+pub take-filled {ℓ} : {A : Type ℓ} (xs l : List A) → take (length xs) (filled xs l) ≡ xs
+take-filled xs l = take-append-seam xs (drop (length xs) l)
+
+pub sets-filled {ℓ} : {A : Type ℓ} (xs l : List A) → length xs ≤ length l → sets l 0 xs ≡ filled xs l
+sets-filled {A = A} xs l h = sets-eq xs l 0 (omega arith) ∙ ap (λ (n : ℕ). xs ++ drop n l) (zero-add (length xs))
+
+pub length-filled {ℓ} : {A : Type ℓ} (xs l : List A) → length xs ≤ length l → length (filled xs l) ≡ length l
+length-filled xs l h = length-append xs (drop (length xs) l) ∙ omega (arith, length-drop (length xs) l)

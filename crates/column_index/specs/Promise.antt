@@ -1,0 +1,157 @@
+-- Document 01: what build, pack, unpack and range search answer, in the order of their checks, and what every lent word is afterwards. Assumes nothing.
+use mathlib.Core.Path.{_≡_}
+use Prim.Native.Nat.{ℕ, suc}
+use mathlib.Core.List.{List, [], _∷_}
+use mathlib.Core.Bool.{Bool, cond, not}
+use lib.Dec.{ltb}
+use lib.IntN.{ℤ}
+use lib.ListN.{length}
+use lib.Signed.{ltZ}
+use Rattle.words.specs.Numbers.{Number, numbered, done, low-above-high, column-too-long, no-index, space-too-short, bad-borders}
+use Rattle.words.specs.Lists.{every, after}
+use Rattle.bins.specs.Bins.{readings, borders, good-borders, bins}
+use Rattle.dictionary.specs.Dictionary.{pack, unpack, largest, fit, accepted}
+use Rattle.column_index.specs.Index.{built, is-index-for}
+use Rattle.column_index.specs.Search.{Answer, search-by}
+use Rattle.column_index.specs.declared.BuildAnswer.{BuildAnswer}
+use Rattle.column_index.specs.declared.BuildAnswer.the-variants as build
+use Rattle.column_index.specs.declared.PackAnswer.{PackAnswer}
+use Rattle.column_index.specs.declared.PackAnswer.the-variants as packing
+use Rattle.column_index.specs.declared.UnpackAnswer.{UnpackAnswer}
+use Rattle.column_index.specs.declared.UnpackAnswer.the-variants as unpacking
+use Rattle.column_index.specs.declared.SearchAnswer.{SearchAnswer}
+use Rattle.column_index.specs.declared.SearchAnswer.the-variants as searching
+
+-- the most rows of a column, and the most lines of a list
+abbrev pub most-rows : ℕ
+most-rows = 16777216
+
+abbrev pub most-lines : ℕ
+most-lines = 1048576
+
+-- ---- build: 2, 4
+
+abbrev pub build-number : BuildAnswer → Number
+build-number (build.Done b i d) = done
+build-number build.TooLong = column-too-long
+build-number (build.BordersShort n) = space-too-short
+build-number (build.ImprintsShort n) = space-too-short
+build-number (build.DictionaryShort n) = space-too-short
+
+-- beside the number: the length needed, and the lengths of borders, imprints and dictionary
+abbrev pub build-beside : BuildAnswer → List ℕ
+build-beside (build.Done b i d) = 0 ∷ b ∷ i ∷ d ∷ []
+build-beside build.TooLong = 0 ∷ 0 ∷ 0 ∷ 0 ∷ []
+build-beside (build.BordersShort n) = n ∷ 0 ∷ 0 ∷ 0 ∷ []
+build-beside (build.ImprintsShort n) = n ∷ 0 ∷ 0 ∷ 0 ∷ []
+build-beside (build.DictionaryShort n) = n ∷ 0 ∷ 0 ∷ 0 ∷ []
+
+-- the answer where the parts have the lengths b, i, d and the lent spaces sb, si, sd
+abbrev pub build-lengths : ℕ → ℕ → ℕ → ℕ → ℕ → ℕ → BuildAnswer
+build-lengths b i d sb si sd = cond (ltb sb b) (build.BordersShort b) (cond (ltb si i) (build.ImprintsShort i) (cond (ltb sd d) (build.DictionaryShort d) (build.Done b i d)))
+
+unfoldable pub build-answer : List ℤ → ℕ → ℕ → ℕ → BuildAnswer
+build-answer col sb si sd =
+    cond (ltb most-rows (length col)) build.TooLong
+    (build-lengths (length (borders readings col)) (length (built readings col .imps)) (length (built readings col .dict)) sb si sd)
+
+pub record Builds (col bs : List ℤ) (is ds : List ℕ) (r : BuildAnswer) (bs′ : List ℤ) (is′ ds′ : List ℕ) : Type 0 where
+  pub answers : r ≡ build-answer col (length bs) (length is) (length ds)
+  pub borders-after : bs′ ≡ after (numbered (build-number r)) (borders readings col) bs
+  pub imprints-after : is′ ≡ after (numbered (build-number r)) (built readings col .imps) is
+  pub dictionary-after : ds′ ≡ after (numbered (build-number r)) (built readings col .dict) ds
+
+-- ---- pack: 2, 5, 3, 4
+
+abbrev pub pack-number : PackAnswer → Number
+pack-number (packing.Done i d) = done
+pack-number packing.TooLong = column-too-long
+pack-number packing.BadBorders = bad-borders
+pack-number packing.Unfit = no-index
+pack-number (packing.ImprintsShort n) = space-too-short
+pack-number (packing.DictionaryShort n) = space-too-short
+
+-- beside the number: the length needed, and the lengths of imprints and dictionary
+abbrev pub pack-beside : PackAnswer → List ℕ
+pack-beside (packing.Done i d) = 0 ∷ i ∷ d ∷ []
+pack-beside packing.TooLong = 0 ∷ 0 ∷ 0 ∷ []
+pack-beside packing.BadBorders = 0 ∷ 0 ∷ 0 ∷ []
+pack-beside packing.Unfit = 0 ∷ 0 ∷ 0 ∷ []
+pack-beside (packing.ImprintsShort n) = n ∷ 0 ∷ 0 ∷ []
+pack-beside (packing.DictionaryShort n) = n ∷ 0 ∷ 0 ∷ []
+
+abbrev pub pack-lengths : ℕ → ℕ → ℕ → ℕ → PackAnswer
+pack-lengths i d si sd = cond (ltb si i) (packing.ImprintsShort i) (cond (ltb sd d) (packing.DictionaryShort d) (packing.Done i d))
+
+unfoldable pub pack-answer : List ℕ → List ℤ → ℕ → ℕ → PackAnswer
+pack-answer ws bs si sd =
+    cond (ltb most-lines (length ws)) packing.TooLong
+    (cond (not (good-borders bs)) packing.BadBorders
+    (cond (not (every (fit (bins bs)) ws)) packing.Unfit (pack-lengths (length (pack largest ws .imps)) (length (pack largest ws .dict)) si sd)))
+
+pub record Packs (ws : List ℕ) (bs : List ℤ) (is ds : List ℕ) (r : PackAnswer) (is′ ds′ : List ℕ) : Type 0 where
+  pub answers : r ≡ pack-answer ws bs (length is) (length ds)
+  pub imprints-after : is′ ≡ after (numbered (pack-number r)) (pack largest ws .imps) is
+  pub dictionary-after : ds′ ≡ after (numbered (pack-number r)) (pack largest ws .dict) ds
+
+-- ---- unpack: 2, 5, 3, 4
+
+abbrev pub unpack-number : UnpackAnswer → Number
+unpack-number (unpacking.Done n) = done
+unpack-number unpacking.TooLong = column-too-long
+unpack-number unpacking.BadBorders = bad-borders
+unpack-number unpacking.NoIndex = no-index
+unpack-number (unpacking.Short n) = space-too-short
+
+-- beside the number: the length needed, and the length of the list
+abbrev pub unpack-beside : UnpackAnswer → List ℕ
+unpack-beside (unpacking.Done n) = 0 ∷ n ∷ []
+unpack-beside unpacking.TooLong = 0 ∷ 0 ∷ []
+unpack-beside unpacking.BadBorders = 0 ∷ 0 ∷ []
+unpack-beside unpacking.NoIndex = 0 ∷ 0 ∷ []
+unpack-beside (unpacking.Short n) = n ∷ 0 ∷ []
+
+unfoldable pub unpack-answer : List ℤ → List ℕ → List ℕ → ℕ → ℕ → UnpackAnswer
+unpack-answer bs is ds lines space =
+    cond (ltb most-lines lines) unpacking.TooLong
+    (cond (not (good-borders bs)) unpacking.BadBorders
+    (cond (not (accepted largest (bins bs) lines ds is)) unpacking.NoIndex
+    (cond (ltb space lines) (unpacking.Short lines) (unpacking.Done lines))))
+
+pub record Unpacks (bs : List ℤ) (is ds : List ℕ) (lines : ℕ) (ws : List ℕ) (r : UnpackAnswer) (ws′ : List ℕ) : Type 0 where
+  pub answers : r ≡ unpack-answer bs is ds lines (length ws)
+  pub list-after : ws′ ≡ after (numbered (unpack-number r)) (unpack ds is) ws
+
+-- ---- range search: 2, 5, 3, 1, 4
+
+abbrev pub search-number : SearchAnswer → Number
+search-number (searching.Done n s w c) = done
+search-number searching.TooLong = column-too-long
+search-number searching.BadBorders = bad-borders
+search-number searching.NoIndex = no-index
+search-number searching.LowAboveHigh = low-above-high
+search-number (searching.Short n) = space-too-short
+
+-- beside the number: the length needed, how many rows, lines skipped, lines whole, values compared
+abbrev pub search-beside : SearchAnswer → List ℕ
+search-beside (searching.Done n s w c) = 0 ∷ n ∷ s ∷ w ∷ c ∷ []
+search-beside searching.TooLong = 0 ∷ 0 ∷ 0 ∷ 0 ∷ 0 ∷ []
+search-beside searching.BadBorders = 0 ∷ 0 ∷ 0 ∷ 0 ∷ 0 ∷ []
+search-beside searching.NoIndex = 0 ∷ 0 ∷ 0 ∷ 0 ∷ 0 ∷ []
+search-beside searching.LowAboveHigh = 0 ∷ 0 ∷ 0 ∷ 0 ∷ 0 ∷ []
+search-beside (searching.Short n) = n ∷ 0 ∷ 0 ∷ 0 ∷ 0 ∷ []
+
+-- the answer of a search that lists and counts a, into a space of so many words
+abbrev pub search-room : Answer → ℕ → SearchAnswer
+search-room a space = cond (ltb space (length (a .ids))) (searching.Short (length (a .ids))) (searching.Done (length (a .ids)) (a .skips) (a .wholes) (a .compares))
+
+unfoldable pub search-answer : List ℤ → List ℤ → List ℕ → List ℕ → ℤ → ℤ → ℕ → SearchAnswer
+search-answer col bs is ds low high space =
+    cond (ltb most-rows (length col)) searching.TooLong
+    (cond (not (good-borders bs)) searching.BadBorders
+    (cond (not (is-index-for readings bs col ds is)) searching.NoIndex
+    (cond (ltZ high low) searching.LowAboveHigh (search-room (search-by readings bs ds is col low high) space))))
+
+pub record Searches (col bs : List ℤ) (is ds : List ℕ) (low high : ℤ) (rows : List ℕ) (r : SearchAnswer) (rows′ : List ℕ) : Type 0 where
+  pub answers : r ≡ search-answer col bs is ds low high (length rows)
+  pub rows-after : rows′ ≡ after (numbered (search-number r)) (search-by readings bs ds is col low high .ids) rows
