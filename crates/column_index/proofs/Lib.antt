@@ -2,3 +2,4 @@ pub mod SearchLaws
 pub mod BuiltLaws
 pub mod RowsLaws
 pub mod PromiseLaws
+pub mod RunLaws

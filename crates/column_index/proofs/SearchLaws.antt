@@ -30,7 +30,7 @@ module _ (k : Kind) (low high : ℤ) where
   scan-all [] r h = refl
   scan-all (v ∷ vs) r h = rw (h v (List·Memᴰ·head refl)) (ap (λ (t : List ℕ). r ∷ t) (scan-all vs (suc r) (λ u m. h u (List·Memᴰ·tail m))))
 
-  scan-append : (a b : List ℤ) (r : ℕ) → scan k low high r (a ++ b) ≡ scan k low high r a ++ scan k low high (r + length a) b
+  pub scan-append : (a b : List ℤ) (r : ℕ) → scan k low high r (a ++ b) ≡ scan k low high r a ++ scan k low high (r + length a) b
   scan-append [] b r = ap (λ (n : ℕ). scan k low high n b) (sym (add-zero r))
   scan-append (v ∷ a) b r = go (matches k low high v) (scan-append a b (suc r) ∙ ap (λ (n : ℕ). scan k low high (suc r) a ++ scan k low high n b) (omega arith))
     where

@@ -46,3 +46,11 @@ pub enum SearchAnswer {
     LowAboveHigh,
     Short(usize),
 }
+
+// What a search has counted so far: rows listed, lines skipped, lines whole, values compared.
+pub struct Tally {
+    pub rows: usize,
+    pub skipped: usize,
+    pub whole: usize,
+    pub compared: usize,
+}

@@ -1,14 +1,14 @@
 -- Laws of lists in pieces. Assumes nothing.
 use Prim.Native.Nat.{ℕ, zero, suc, _+_, _-_, _*_, _/_, _%_, _^_, _<_, _≤_}
-use mathlib.Core.Path.{_≡_, refl, sym, _∙_, ap}
+use mathlib.Core.Path.{_≡_, refl, sym, _∙_, ap, ap₂}
 use mathlib.Core.List.{List, [], _∷_, _++_, map, append-nil, append-assoc}
 use mathlib.Core.Bool.{Bool, true, false, _&&_, and-eq-true-iff, false≢true}
 use lib.Dec.{leb, eqb}
 use borrow.Author.Tests.{leb-true, leb-false, eq-eqb, eqb-true}
-use native.Mathlib.Nat.{div-eq-of-lt, add-div-left, mul-zero, mul-suc, suc-mul, zero-add}
+use native.Mathlib.Nat.{div-eq-of-lt, add-div-left, mul-zero, mul-suc, suc-mul, zero-add, add-zero, mul-comm, le-div-iff-mul-le, div-lt-iff-lt-mul}
 use native.Mathlib.Omega.{arith}
 use native.Mathlib.Numerals.{add-one}
-use lib.ListN.{length, take, drop, length-append, take-append-drop, length-drop, length-map}
+use lib.ListN.{length, take, drop, length-append, take-append-drop, length-drop, length-map, set, drop-of-length-le}
 use lib.Seq.{take-all, take-at, drop-append-add, drop-at, length-take-le, take-append-seam, sets, sets-eq}
 use Rattle.words.specs.Lists.{from, ceil, pieces, joined, every, same, filled, after}
 
@@ -144,3 +144,41 @@ sets-filled {A = A} xs l h = sets-eq xs l 0 (omega arith) ∙ ap (λ (n : ℕ). 
 
 pub length-filled {ℓ} : {A : Type ℓ} (xs l : List A) → length xs ≤ length l → length (filled xs l) ≡ length l
 length-filled xs l h = length-append xs (drop (length xs) l) ∙ omega (arith, length-drop (length xs) l)
+
+-- ---- pieces, one by one
+
+-- the first piece of a list that has an element, and the pieces of what is left
+pub pieces-cons {ℓ} : {A : Type ℓ} (k : ℕ) → 0 < k → (xs : List A) → 0 < length xs → pieces k xs ≡ take k xs ∷ pieces k (drop k xs)
+pieces-cons {A = A} k p xs h = go (leb (length xs) k) refl
+  where
+    go : (t : Bool) → leb (length xs) k ≡ t → pieces k xs ≡ take k xs ∷ pieces k (drop k xs)
+    go true t =
+        let l = leb-true (length xs) k t in
+        pieces-short k p xs h l
+        ∙ ap {B = List (List A)} (λ y. y ∷ []) (sym (take-all k xs l))
+        ∙ ap {B = List (List A)} (λ y. take k xs ∷ y) (sym (ap (pieces k) (drop-of-length-le xs l) ∙ pieces-nil k p))
+    go false t =
+        ap (pieces k) (sym (take-append-drop k xs))
+        ∙ pieces-more k p (take k xs) (drop k xs) (length-take-le k xs (omega (arith, leb-false (length xs) k t)))
+
+-- piece c begins inside the list, and the pieces reach its end
+pub ceil-below : (n k c : ℕ) → 0 < k → c < ceil n k → k * c < n
+ceil-below n k c p h = omega (arith, le-div-iff-mul-le p .0 h, suc-mul c k, mul-comm k c)
+
+pub ceil-reach : (n k c : ℕ) → 0 < k → ceil n k ≤ c → n ≤ k * c
+ceil-reach n k c p h = omega (arith, div-lt-iff-lt-mul {k = k} {x = n + (k - 1)} {y = suc c} p .0 (omega arith), suc-mul c k, mul-comm k c)
+
+pub from-append : (m n a : ℕ) → from a (m + n) ≡ from a m ++ from (a + m) n
+from-append zero n a = ap₂ from (sym (add-zero a)) (zero-add n)
+from-append (suc m) n a =
+    let e : suc m + n ≡ suc (m + n) = omega arith in
+    let f : suc a + m ≡ a + suc m = omega arith in
+    ap (λ (k : ℕ). from a k) e ∙ ap (λ (l : List ℕ). a ∷ l) (from-append m n (suc a) ∙ ap (λ (k : ℕ). from (suc a) m ++ from k n) f)
+
+-- ---- writes, one after the other
+
+pub sets-append {ℓ} : {A : Type ℓ} (xs ys l : List A) (i : ℕ) → sets l i (xs ++ ys) ≡ sets (sets l i xs) (i + length xs) ys
+sets-append [] ys l i = rw add-zero
+sets-append (x ∷ xs) ys l i =
+    let e : suc i + length xs ≡ i + suc (length xs) = omega arith in
+    sets-append xs ys (set l i x) (suc i) ∙ ap (λ (j : ℕ). sets (sets (set l i x) (suc i) xs) j ys) e
