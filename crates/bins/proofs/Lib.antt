@@ -1,3 +1,5 @@
 pub mod BinLaws
 pub mod MaskLaws
 pub mod BorderLaws
+pub mod TurnLaws
+pub mod LineLaws
