@@ -3,3 +3,4 @@ pub mod MaskLaws
 pub mod BorderLaws
 pub mod TurnLaws
 pub mod LineLaws
+pub mod SortLaws
