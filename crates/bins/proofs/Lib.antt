@@ -1,3 +1,6 @@
 pub mod BinLaws
 pub mod MaskLaws
 pub mod BorderLaws
+pub mod TurnLaws
+pub mod LineLaws
+pub mod SortLaws
