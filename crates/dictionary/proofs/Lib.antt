@@ -7,3 +7,4 @@ pub mod ParseLaws
 pub mod RunsLaws
 pub mod PackerLaws
 pub mod IndexLaws
+pub mod StepLaws
