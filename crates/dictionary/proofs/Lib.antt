@@ -8,3 +8,4 @@ pub mod RunsLaws
 pub mod PackerLaws
 pub mod IndexLaws
 pub mod StepLaws
+pub mod TurnLaws

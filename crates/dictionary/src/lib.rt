@@ -1,4 +1,7 @@
 // The packed line dictionary: packing, unpacking, acceptance, and positions in it.
+
+pub mod packing; // packing.rt: packing, one imprint at a time
+
 ghost use mathlib.Core.Path.{_≡_};
 ghost use Prim.Native.Nat.{suc, _+_, _^_, _<_, _≤_};
 ghost use mathlib.Core.Bool.{Bool};
