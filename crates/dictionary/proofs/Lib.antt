@@ -9,3 +9,4 @@ pub mod PackerLaws
 pub mod IndexLaws
 pub mod StepLaws
 pub mod TurnLaws
+pub mod PackLoops

@@ -5,7 +5,7 @@ ghost use mathlib.Core.Bool.{Bool, cond};
 ghost use lib.Dec.{eqb};
 ghost use lib.ListN.{length};
 ghost use lib.Seq.{sets};
-ghost use Rattle.dictionary.specs.Dictionary.{largest};
+ghost use Rattle.dictionary.specs.Dictionary.{largest, pack};
 ghost use Rattle.dictionary.specs.Packer.{packer, opened, turn, fresh, Steady, move, move-on, last-word, settled, added, after};
 
 // What is open: nothing yet; a plain entry; a repeat entry; one more line of a run whose entries are all full.
@@ -221,4 +221,44 @@ impl Packer {
         let state = self.state;
         put_word(dictionary, self.words, closing(state));
     }
+}
+
+// How many words a packing has: its imprints, its dictionary.
+pub struct Lengths {
+    pub imprints: usize,
+    pub dictionary: usize,
+}
+
+// How long the packing of a list of imprints is.
+pub fn measured(list: &[u64]) -> Lengths
+    ensures { λ r. ⌜ r .imprints ≡ length (pack largest (now (list .entry)) .imps) ⌝ }
+    ensures { λ r. ⌜ r .dictionary ≡ length (pack largest (now (list .entry)) .dict) ⌝ }
+{
+    let mut packer = Packer::new();
+    let mut i = 0;
+    while i < list.len() {
+        packer = packer.counted(list[i]);
+        i += 1;
+    }
+    let dictionary = packer.ends();
+    Lengths {
+        imprints: packer.kept,
+        dictionary,
+    }
+}
+
+// The packing of a list of imprints, into two spaces that are long enough.
+pub fn write(list: &[u64], imprints: &mut [u64], dictionary: &mut [u32])
+    requires { ⌜ length (pack largest (now list) .imps) ≤ length (now imprints) ⌝ }
+    requires { ⌜ length (pack largest (now list) .dict) ≤ length (now dictionary) ⌝ }
+    ensures { λ r. ⌜ now (imprints .exit) ≡ sets (now (imprints .entry)) 0 (pack largest (now (list .entry)) .imps) ⌝ }
+    ensures { λ r. ⌜ now (dictionary .exit) ≡ sets (now (dictionary .entry)) 0 (pack largest (now (list .entry)) .dict) ⌝ }
+{
+    let mut packer = Packer::new();
+    let mut i = 0;
+    while i < list.len() {
+        packer = packer.pushed(list[i], imprints, dictionary);
+        i += 1;
+    }
+    packer.closed(dictionary);
 }
