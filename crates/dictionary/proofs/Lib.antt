@@ -8,3 +8,6 @@ pub mod RunsLaws
 pub mod PackerLaws
 pub mod IndexLaws
 pub mod PositionLaws
+pub mod StepLaws
+pub mod TurnLaws
+pub mod PackLoops

@@ -1,0 +1,56 @@
+-- One turn of the packer, by the tests that the program makes. Assumes nothing.
+use Prim.Native.Nat.{ℕ, zero, suc, _+_, _-_, _^_, _<_, _≤_}
+use mathlib.Core.Path.{_≡_, refl, sym, _∙_, ap}
+use mathlib.Core.List.{List, [], _∷_, _++_}
+use mathlib.Core.Bool.{Bool, true, false, cond}
+use native.Mathlib.Omega.{arith}
+use lib.Dec.{eqb}
+use lib.ListN.{length}
+use lib.Seq.{sets}
+use borrow.Author.Tests.{eq-eqb, ne-eqb}
+use Rattle.dictionary.specs.Dictionary.{largest}
+use Rattle.dictionary.specs.declared.packing.Open.{Open}
+use Rattle.dictionary.specs.declared.packing.Open.the-variants.{Nothing, Lone, Run, Spill}
+use Rattle.dictionary.specs.declared.packing.Opened.{Opened}
+use Rattle.dictionary.specs.declared.packing.Turn.{Turn}
+use Rattle.dictionary.specs.declared.packing.Packer.{Packer}
+use Rattle.dictionary.specs.Packer.{opened, turn, move, move-on, last-of, last-word, settled, added, packer, after}
+
+-- the tests, in the order of the code
+module _ (k : Open) (t : Turn) (c x y : ℕ) where
+  pub same-last : (f : Bool) → x ≡ y → t ≡ move k true f c x y → t ≡ move k (eqb x y) f c x y
+  same-last f e h = rw (eq-eqb x y e) h
+
+  pub other-last : (f : Bool) → (x ≡ y → ⊥) → t ≡ move k false f c x y → t ≡ move k (eqb x y) f c x y
+  other-last f n h = rw (ne-eqb x y n) h
+
+  pub is-full : (b : Bool) → c ≡ largest → t ≡ move k b true c x y → t ≡ move k b (eqb c largest) c x y
+  is-full b e h = rw (eq-eqb c largest e) h
+
+  pub not-full : (b : Bool) → (c ≡ largest → ⊥) → t ≡ move k b false c x y → t ≡ move k b (eqb c largest) c x y
+  not-full b n h = rw (ne-eqb c largest n) h
+
+-- the kind of the open entry
+pub by-kind : (s : Opened) (t : Turn) (y : ℕ) (k : Open) → s .kind ≡ k → t ≡ move k (eqb (s .last) y) (eqb (s .count) largest) (s .count) (s .last) y → t ≡ move-on largest s y
+by-kind s t y k e h = rw e h
+
+pub last-by-kind : (s : Opened) (n : ℕ) (k : Open) → s .kind ≡ k → n ≡ last-of k (s .count) → n ≡ last-word s
+last-by-kind s n k e h = rw e h
+
+-- what is written
+pub settles : (d : ℕ) → (d ≡ 0 → ⊥) → settled d ≡ d ∷ []
+settles zero n = absurd (n refl)
+settles (suc d) n = refl
+
+pub settles-none : (d : ℕ) → d ≡ 0 → settled d ≡ []
+settles-none zero e = refl
+settles-none (suc d) e = absurd (omega arith)
+
+pub one-word : (d : ℕ) → (d ≡ 0 → ⊥) → length (settled d) ≡ 1
+one-word d n = ap length (settles d n)
+
+pub no-word : (d : ℕ) → d ≡ 0 → length (settled d) ≡ 0
+no-word d e = ap length (settles-none d e)
+
+pub after-is : (p : Packer) (t u : Turn) (ws ks : ℕ) → t ≡ u → ws ≡ p .words + length (settled (t .word)) → ks ≡ p .kept + cond (t .keeps) 1 0 → packer (t .next) ws ks ≡ after p u
+after-is p t u ws ks e w k = rw (w, k) (ap (after p) e)
