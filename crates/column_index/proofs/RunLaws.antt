@@ -1,5 +1,5 @@
 -- The search as the program goes, entry by entry, is the search of document 01. Assumes nothing.
-use Prim.Native.Nat.{ℕ, zero, suc, _+_, _-_, _*_, _<_, _≤_}
+use Prim.Native.Nat.{ℕ, zero, suc, _+_, _-_, _*_, _<_, _≤_, min}
 use mathlib.Core.Path.{_≡_, refl, sym, _∙_, ap, ap₂}
 use mathlib.Core.List.{List, [], _∷_, _++_, map, append-assoc, append-nil}
 use mathlib.Core.Bool.{Bool, true, false, cond}
@@ -8,20 +8,20 @@ use native.Mathlib.Nat.{add-zero, zero-add, mul-zero, mul-suc, mul-one}
 use native.Mathlib.Numerals.{add-one}
 use lib.Dec.{leb}
 use lib.ListN.{length, take, drop, getD, replicate, length-append, length-take, length-drop, drop-of-length-le}
-use lib.Seq.{take-add, drop-drop, length-take-le, take-all}
-use lib.IntN.{ℤ}
+use lib.Seq.{take-add, drop-drop, drop-cons, length-take-le, take-all, take-length, take-nil}
+use lib.IntN.{ℤ, pos}
 use borrow.Author.Tests.{leb-true, leb-false}
 use Rattle.words.specs.Lists.{from, ceil, pieces}
 use Rattle.words.proofs.ListLaws.{pieces-cons, pieces-nil, ceil-below, ceil-reach, from-append, length-from}
-use Rattle.bins.specs.Bins.{Kind, bins, lines}
+use Rattle.bins.specs.Bins.{Kind, readings, bins, lines}
 use Rattle.bins.specs.Masks.{matches, mask, inner, fate}
 use Rattle.bins.specs.declared.Fate.{Fate}
 use Rattle.bins.specs.declared.Fate.the-variants.{Skipped, Whole, Compared}
 use Rattle.dictionary.specs.Dictionary.{unpack, count-of, repeated}
 use Rattle.column_index.specs.Index.{line-count}
 use Rattle.column_index.specs.Search.{scan, Answer, nothing, with-line, over, fates, search}
-use Rattle.column_index.specs.Runs.{Asked, asking, fate-in, values, through, run-of, then, tally, plus, entry-lines, entry-kept, Within}
-use Rattle.column_index.specs.declared.Tally.{Tally}
+use Rattle.column_index.specs.Runs.{Asked, asking, fate-in, values, through, run-of, run-at, then, tally, plus, entry-lines, entry-kept, Within, row-at}
+use Rattle.column_index.specs.declared.rows.Tally.{Tally}
 use Rattle.column_index.proofs.SearchLaws.{scan-append}
 
 answer-eq : (a b : Answer) → a .ids ≡ b .ids → a .skips ≡ b .skips → a .wholes ≡ b .wholes → a .compares ≡ b .compares → a ≡ b
@@ -83,7 +83,7 @@ module _ (k : Kind) (col : List ℤ) where
       omega (arith, per-suc c, mul-one (k .per), length-take (k .per * n) (drop (k .per * suc c) col), length-drop (k .per * suc c) col, length-take (k .per * 1) (drop (k .per * c) col), length-drop (k .per * c) col)
 
   -- A RUN OF LINES WITH ONE IMPRINT
-  pub through-run : (q : Asked) (w n c : ℕ) → through k q col c (replicate n w) ≡ run-of k (q .low) (q .high) (fate-in q w) (k .per * c) n (values k col c n)
+  pub through-run : (q : Asked) (w n c : ℕ) → through k q col c (replicate n w) ≡ run-at k q col w c n
   through-run q w zero c =
       let e : values k col c 0 ≡ [] = ap (λ (m : ℕ). take m (drop (k .per * c) col)) (mul-zero (k .per)) in
       sym (ap (run-of k (q .low) (q .high) (fate-in q w) (k .per * c) 0) e ∙ run-none k (q .low) (q .high) (fate-in q w) (k .per * c))
@@ -169,3 +169,83 @@ pub run-within : (k : Kind) (low high : ℤ) (f : Fate) (t : Tally) (c r n : ℕ
 run-within k low high Skipped t c r n vs h l = record { few-rows = omega (arith, h .few-rows); few-skipped = omega (arith, h .few-skipped); few-whole = omega (arith, h .few-whole); few-compared = omega (arith, h .few-compared) }
 run-within k low high Whole t c r n vs h l = record { few-rows = omega (arith, h .few-rows, length-from (length vs) r); few-skipped = omega (arith, h .few-skipped); few-whole = omega (arith, h .few-whole); few-compared = omega (arith, h .few-compared) }
 run-within k low high Compared t c r n vs h l = record { few-rows = omega (arith, h .few-rows, scan-length k low high vs r); few-skipped = omega (arith, h .few-skipped); few-whole = omega (arith, h .few-whole); few-compared = omega (arith, h .few-compared) }
+
+-- ---- parts
+
+take-min : (m : ℕ) (l : List ℤ) → take (min m (length l)) l ≡ take m l
+take-min m l = go (leb m (length l)) refl
+  where
+    go : (t : Bool) → leb m (length l) ≡ t → take (min m (length l)) l ≡ take m l
+    go true t = let h = leb-true m (length l) t in let e : min m (length l) ≡ m = omega arith in ap (λ (n : ℕ). take n l) e
+    go false t =
+        let h = leb-false m (length l) t in
+        let e : min m (length l) ≡ length l = omega arith in
+        ap (λ (n : ℕ). take n l) e ∙ take-length l ∙ sym (take-all m l (omega arith))
+
+-- ---- counting the matches of a part
+
+pub scan-count : (k : Kind) (low high : ℤ) (vs : List ℤ) (r s : ℕ) → length (scan k low high r vs) ≡ length (scan k low high s vs)
+scan-count k low high [] r s = refl
+scan-count k low high (v ∷ vs) r s = go (matches k low high v) (scan-count k low high vs (suc r) (suc s))
+  where
+    go : (t : Bool) → length (scan k low high (suc r) vs) ≡ length (scan k low high (suc s) vs) → length (cond t (r ∷ scan k low high (suc r) vs) (scan k low high (suc r) vs)) ≡ length (cond t (s ∷ scan k low high (suc s) vs) (scan k low high (suc s) vs))
+    go true h = ap suc h
+    go false h = h
+
+-- one turn of the count: the value at place i
+pub count-turn : (k : Kind) (low high : ℤ) (vs : List ℤ) (i : ℕ) (v : ℤ) → i < length vs → getD vs i (pos 0) ≡ v → length (scan k low high 0 (drop i vs)) ≡ cond (matches k low high v) 1 0 + length (scan k low high 0 (drop (i + 1) vs))
+count-turn k low high vs i v h e =
+    ap (λ (l : List ℤ). length (scan k low high 0 l)) (drop-cons vs i (pos 0) h)
+    ∙ ap (λ (x : ℤ). length (scan k low high 0 (x ∷ drop (suc i) vs))) e
+    ∙ go (matches k low high v)
+    ∙ ap (λ (m : ℕ). cond (matches k low high v) 1 0 + length (scan k low high 0 (drop m vs))) (sym (add-one i))
+  where
+    go : (t : Bool) → length (cond t (0 ∷ scan k low high 1 (drop (suc i) vs)) (scan k low high 1 (drop (suc i) vs))) ≡ cond t 1 0 + length (scan k low high 0 (drop (suc i) vs))
+    go true = omega (arith, scan-count k low high (drop (suc i) vs) 1 0)
+    go false = omega (arith, scan-count k low high (drop (suc i) vs) 1 0)
+
+pub count-none : (k : Kind) (low high : ℤ) (vs : List ℤ) (i : ℕ) → length vs ≤ i → length (scan k low high 0 (drop i vs)) ≡ 0
+count-none k low high vs i h = ap (λ (l : List ℤ). length (scan k low high 0 l)) (drop-of-length-le vs h)
+
+-- the values of n lines, as a part of the column
+pub part-values : (col : List ℤ) (c n : ℕ) → take (row-at (length col) (c + n) - row-at (length col) c) (drop (row-at (length col) c) col) ≡ values readings col c n
+part-values col c n = go (leb (16 * c) (length col)) refl
+  where
+    go : (t : Bool) → leb (16 * c) (length col) ≡ t → take (row-at (length col) (c + n) - row-at (length col) c) (drop (row-at (length col) c) col) ≡ values readings col c n
+    go true t =
+        let l = leb-true (16 * c) (length col) t in
+        let a : row-at (length col) c ≡ 16 * c = omega arith in
+        let e : row-at (length col) (c + n) - row-at (length col) c ≡ min (16 * n) (length (drop (16 * c) col)) = omega (arith, length-drop (16 * c) col) in
+        ap₂ (λ (m b : ℕ). take m (drop b col)) e a ∙ take-min (16 * n) (drop (16 * c) col)
+    go false t =
+        let l = leb-false (16 * c) (length col) t in
+        let d : drop (row-at (length col) c) col ≡ [] = drop-of-length-le col {i = row-at (length col) c} (omega arith) in
+        let b : drop (16 * c) col ≡ [] = drop-of-length-le col {i = 16 * c} (omega arith) in
+        ap (take (row-at (length col) (c + n) - row-at (length col) c)) d ∙ take-nil (row-at (length col) (c + n) - row-at (length col) c) ∙ sym (ap (take (16 * n)) b ∙ take-nil (16 * n))
+
+pub values-length : (col : List ℤ) (c n : ℕ) → length (values readings col c n) ≤ 16 * n
+values-length col c n = omega (arith, length-take (16 * n) (drop (16 * c) col))
+
+pub values-within : (col : List ℤ) (c n : ℕ) → length (values readings col c n) ≤ length col
+values-within col c n = omega (arith, length-take (16 * n) (drop (16 * c) col), length-drop (16 * c) col)
+
+-- ---- the three fates of a run, as the program counts them
+
+module _ (k : Kind) (q : Asked) (col : List ℤ) (t : Tally) (w c n : ℕ) where
+  pub skipped-run : fate-in q w ≡ Skipped → tally (t .rows) (t .skipped + n) (t .whole) (t .compared) ≡ plus t (run-at k q col w c n)
+  skipped-run e =
+      sym (ap (λ (f : Fate). plus t (run-of k (q .low) (q .high) f (k .per * c) n (values k col c n))) e
+      ∙ tally-eq _ _ (add-zero (t .rows)) refl (add-zero (t .whole)) (add-zero (t .compared)))
+
+  pub whole-run : (m : ℕ) → m ≡ length (values k col c n) → fate-in q w ≡ Whole → tally (t .rows + m) (t .skipped) (t .whole + n) (t .compared) ≡ plus t (run-at k q col w c n)
+  whole-run m l e =
+      sym (ap (λ (f : Fate). plus t (run-of k (q .low) (q .high) f (k .per * c) n (values k col c n))) e
+      ∙ tally-eq _ _ (ap (λ (x : ℕ). t .rows + x) (length-from (length (values k col c n)) (k .per * c) ∙ sym l)) (add-zero (t .skipped)) refl (add-zero (t .compared)))
+
+  pub compared-run : (m l : ℕ) → m ≡ length (scan k (q .low) (q .high) 0 (values k col c n)) → l ≡ length (values k col c n) → fate-in q w ≡ Compared → tally (t .rows + m) (t .skipped) (t .whole) (t .compared + l) ≡ plus t (run-at k q col w c n)
+  compared-run m l h g e =
+      sym (ap (λ (f : Fate). plus t (run-of k (q .low) (q .high) f (k .per * c) n (values k col c n))) e
+      ∙ tally-eq _ _ (ap (λ (x : ℕ). t .rows + x) (scan-count k (q .low) (q .high) (values k col c n) (k .per * c) 0 ∙ sym h)) (add-zero (t .skipped)) (add-zero (t .whole)) (ap (λ (x : ℕ). t .compared + x) (sym g)))
+
+  pub run-at-within : Within t c → length (values k col c n) ≤ 16 * n → Within (plus t (run-at k q col w c n)) (c + n)
+  run-at-within = run-within k (q .low) (q .high) (fate-in q w) t c (k .per * c) n (values k col c n)

@@ -1,5 +1,5 @@
 -- The range search as the program goes, entry by entry: the laws show that it is the search of document 01. Assumes nothing.
-use Prim.Native.Nat.{ℕ, zero, suc, _+_, _*_, _≤_}
+use Prim.Native.Nat.{ℕ, zero, suc, _+_, _*_, _≤_, min}
 use mathlib.Core.Path.{_≡_}
 use mathlib.Core.List.{List, [], _∷_, _++_}
 use mathlib.Core.Bool.{Bool, true, false, cond}
@@ -12,7 +12,8 @@ use Rattle.bins.specs.declared.Fate.{Fate}
 use Rattle.bins.specs.declared.Fate.the-variants.{Skipped, Whole, Compared}
 use Rattle.dictionary.specs.Dictionary.{count-of, repeated}
 use Rattle.column_index.specs.Search.{scan, Answer, nothing, with-line}
-use Rattle.column_index.specs.declared.Tally.{Tally}
+use Rattle.column_index.specs.declared.rows.Ask.{Ask}
+use Rattle.column_index.specs.declared.rows.Tally.{Tally}
 
 -- a range, and the masks of the bins that it is searched by
 pub record Asked : Type 0 where
@@ -24,6 +25,10 @@ pub record Asked : Type 0 where
 
 abbrev pub asking : Kind → List ℤ → ℤ → ℤ → Asked
 asking k bs low high = record { low = low; high = high; bin-count = bins bs; masked = mask k bs low high; inner-masked = inner k bs low high }
+
+-- the same as the program holds it: of all 64 bits of a word
+abbrev pub asked-of : Ask → Asked
+asked-of q = record { low = q .low; high = q .high; bin-count = 64; masked = q .mask; inner-masked = q .inner }
 
 -- what becomes of a line with imprint w
 abbrev pub fate-in : Asked → ℕ → Fate
@@ -43,6 +48,10 @@ abbrev pub run-of : Kind → ℤ → ℤ → Fate → ℕ → ℕ → List ℤ �
 run-of k low high Skipped r n vs = record { ids = []; skips = n; wholes = 0; compares = 0 }
 run-of k low high Whole r n vs = record { ids = from r (length vs); skips = 0; wholes = n; compares = 0 }
 run-of k low high Compared r n vs = record { ids = scan k low high r vs; skips = 0; wholes = 0; compares = length vs }
+
+-- n lines of one imprint w from line c on
+abbrev pub run-at : Kind → Asked → List ℤ → ℕ → ℕ → ℕ → Answer
+run-at k q col w c n = run-of k (q .low) (q .high) (fate-in q w) (k .per * c) n (values k col c n)
 
 -- one answer after another
 abbrev pub then : Answer → Answer → Answer
@@ -74,3 +83,7 @@ pub record Within (t : Tally) (c : ℕ) : Type 0 where
   pub few-skipped : t .skipped ≤ c
   pub few-whole : t .whole ≤ c
   pub few-compared : t .compared ≤ 16 * c
+
+-- the first row of line c of a column of so many rows, or the end of the column
+abbrev pub row-at : ℕ → ℕ → ℕ
+row-at rows c = min (16 * c) rows

@@ -1,5 +1,7 @@
 // The index part: build, pack, unpack and range search over a lent column.
 
+pub mod rows; // rows.rt: the rows of a range, counted and listed entry by entry
+
 // What build answers: the lengths of the three parts; a column that is too long; or the first space that is too short, with the length needed.
 pub enum BuildAnswer {
     Done {
@@ -45,12 +47,4 @@ pub enum SearchAnswer {
     NoIndex,
     LowAboveHigh,
     Short(usize),
-}
-
-// What a search has counted so far: rows listed, lines skipped, lines whole, values compared.
-pub struct Tally {
-    pub rows: usize,
-    pub skipped: usize,
-    pub whole: usize,
-    pub compared: usize,
 }
