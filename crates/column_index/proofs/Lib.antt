@@ -3,3 +3,4 @@ pub mod BuiltLaws
 pub mod RowsLaws
 pub mod PromiseLaws
 pub mod RunLaws
+pub mod EntryLaws

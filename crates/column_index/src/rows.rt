@@ -105,3 +105,64 @@ fn count_run(t: Tally, column: &[i32], line: Line, n: usize, imprint: u64, ask: 
         },
     }
 }
+
+// Lines with these imprints, from `line` on, counted one by one.
+fn count_plain(t: Tally, column: &[i32], line: Line, imprints: &[u64], ask: Ask) -> Tally
+    requires { ⌜ (Within t (line .0)) × (line .0 + length (now imprints) ≤ 1048576) × (length (now column) ≤ 16777216) ⌝ }
+    ensures { λ r. ⌜ r ≡ plus t (through readings (asked-of ask) (now (column .entry)) (line .0) (now (imprints .entry))) ⌝ }
+{
+    let first = line.0;
+    let mut so_far = t;
+    let mut i: usize = 0;
+    while i < imprints.len() {
+        so_far = count_run(so_far, column, Line(first + i), 1, imprints[i], ask);
+        i += 1;
+    }
+    so_far
+}
+
+// The lines of an entry, from `line` on, counted. The imprints begin with the entry's own.
+fn count_entry(t: Tally, column: &[i32], line: Line, d: u32, imprints: &[u64], ask: Ask) -> Tally
+    requires { ⌜ (Within t (line .0)) × (line .0 + count-of d ≤ 1048576) × (length (now column) ≤ 16777216) × (entry-kept d ≤ length (now imprints)) ⌝ }
+    ensures { λ r. ⌜ r ≡ plus t (through readings (asked-of ask) (now (column .entry)) (line .0) (entry-lines d (now (imprints .entry)))) ⌝ }
+{
+    let n = dictionary::count_of(d) as usize;
+    if dictionary::is_repeat(d) {
+        return count_run(t, column, line, n, imprints[0], ask);
+    }
+    count_plain(t, column, line, &imprints[..n], ask)
+}
+
+// How many imprints are kept for an entry.
+fn kept_by(d: u32) -> usize
+    ensures { λ r. ⌜ r ≡ entry-kept d ⌝ }
+{
+    if dictionary::is_repeat(d) {
+        return 1;
+    }
+    dictionary::count_of(d) as usize
+}
+
+// All the lines of an index, counted.
+pub fn count_all(column: &[i32], imprints: &[u64], dictionary: &[u32], ask: Ask) -> Tally
+    requires { ⌜ (Readable (now dictionary) (now imprints)) × (length (unpack (now dictionary) (now imprints)) ≤ 1048576) × (length (now column) ≤ 16777216) ⌝ }
+    ensures { λ r. ⌜ r ≡ plus (tally 0 0 0 0) (through readings (asked-of ask) (now (column .entry)) 0 (unpack (now (dictionary .entry)) (now (imprints .entry)))) ⌝ }
+{
+    let mut so_far = Tally {
+        rows: 0,
+        skipped: 0,
+        whole: 0,
+        compared: 0,
+    };
+    let mut e: usize = 0;
+    let mut i: usize = 0;
+    let mut c: usize = 0;
+    while e < dictionary.len() {
+        let d = dictionary[e];
+        so_far = count_entry(so_far, column, Line(c), d, &imprints[i..], ask);
+        i += kept_by(d);
+        c += dictionary::count_of(d) as usize;
+        e += 1;
+    }
+    so_far
+}

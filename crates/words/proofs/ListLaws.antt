@@ -182,3 +182,7 @@ sets-append [] ys l i = rw add-zero
 sets-append (x ∷ xs) ys l i =
     let e : suc i + length xs ≡ i + suc (length xs) = omega arith in
     sets-append xs ys (set l i x) (suc i) ∙ ap (λ (j : ℕ). sets (sets (set l i x) (suc i) xs) j ys) e
+
+-- the part of a slice from place i on
+pub part-from {ℓ} : {A : Type ℓ} (l : List A) (i : ℕ) → take (length l - i) (drop i l) ≡ drop i l
+part-from l i = take-all (length l - i) (drop i l) (omega (arith, length-drop i l))
