@@ -4,3 +4,4 @@ pub mod RowsLaws
 pub mod PromiseLaws
 pub mod RunLaws
 pub mod EntryLaws
+pub mod FillLaws

@@ -1,6 +1,7 @@
 // The index part: build, pack, unpack and range search over a lent column.
 
-pub mod rows; // rows.rt: the rows of a range, counted and listed entry by entry
+pub mod rows; // rows.rt: the rows of a range, counted entry by entry
+pub mod listed; // listed.rt: the same rows, listed
 
 // What build answers: the lengths of the three parts; a column that is too long; or the first space that is too short, with the length needed.
 pub enum BuildAnswer {

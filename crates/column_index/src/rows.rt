@@ -66,7 +66,7 @@ fn row_of(rows: usize, line: Line) -> Row
 }
 
 // The values of n lines from `line` on. The last line of the column may be shorter.
-fn lines_of<'a>(column: &'a [i32], line: Line, n: usize) -> &'a [i32]
+pub fn lines_of<'a>(column: &'a [i32], line: Line, n: usize) -> &'a [i32]
     requires { ⌜ line .0 + n ≤ 1048576 ⌝ }
     ensures { λ r. ⌜ now r ≡ values readings (now (column .entry)) (line .0) n ⌝ }
 {
@@ -134,7 +134,7 @@ fn count_entry(t: Tally, column: &[i32], line: Line, d: u32, imprints: &[u64], a
 }
 
 // How many imprints are kept for an entry.
-fn kept_by(d: u32) -> usize
+pub fn kept_by(d: u32) -> usize
     ensures { λ r. ⌜ r ≡ entry-kept d ⌝ }
 {
     if dictionary::is_repeat(d) {
