@@ -42,3 +42,42 @@ fn put_row(rows: &mut [u32], at: usize, row: Row, v: i32, ask: Ask) -> usize
     }
     at
 }
+
+// The matching rows of values that begin at row `first`, written from place `at` on. Gives the next place.
+fn fill_matches(rows: &mut [u32], at: usize, part: &[i32], first: Row, ask: Ask) -> usize
+    requires { ⌜ (at + length (scan readings (ask .low) (ask .high) (first .0) (now part)) ≤ length (now rows)) × (first .0 + length (now part) ≤ 16777216) ⌝ }
+    ensures { λ r. ⌜ (now (rows .exit) ≡ sets (now (rows .entry)) at (scan readings (ask .low) (ask .high) (first .0) (now (part .entry)))) × (r ≡ at + length (scan readings (ask .low) (ask .high) (first .0) (now (part .entry)))) ⌝ }
+{
+    let a = first.0;
+    let mut n = at;
+    let mut i: usize = 0;
+    while i < part.len() {
+        n = put_row(rows, n, Row(a + i), part[i], ask);
+        i += 1;
+    }
+    n
+}
+
+// The first row of a line.
+fn first_row(line: Line) -> Row
+    requires { ⌜ line .0 ≤ 1048576 ⌝ }
+    ensures { λ r. ⌜ r .0 ≡ 16 * (line .0) ⌝ }
+{
+    Row(16 * line.0)
+}
+
+// The rows of n lines of one imprint, from `line` on, written from place `at` on. Gives the next place.
+fn fill_run(rows: &mut [u32], at: usize, column: &[i32], line: Line, n: usize, imprint: u64, ask: Ask) -> usize
+    requires { ⌜ (at + length (run-at readings (asked-of ask) (now column) imprint (line .0) n .ids) ≤ length (now rows)) × (line .0 + n ≤ 1048576) × (length (now column) ≤ 16777216) ⌝ }
+    ensures { λ r. ⌜ (now (rows .exit) ≡ sets (now (rows .entry)) at (run-at readings (asked-of ask) (now (column .entry)) imprint (line .0) n .ids)) × (r ≡ at + length (run-at readings (asked-of ask) (now (column .entry)) imprint (line .0) n .ids)) ⌝ }
+{
+    let part = lines_of(column, line, n);
+    match bins::fate_of(imprint, ask.mask, ask.inner) {
+        Fate::Skipped => at,
+        Fate::Whole => {
+            fill_whole(rows, at, first_row(line), part.len());
+            at + part.len()
+        }
+        Fate::Compared => fill_matches(rows, at, part, first_row(line), ask),
+    }
+}
