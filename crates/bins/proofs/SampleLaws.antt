@@ -1,13 +1,13 @@
 -- The sample, the spread and the different values, as loops write them. Assumes nothing.
-use Prim.Native.Nat.{ℕ, zero, suc, _+_, _-_, _*_, _/_, _≤_, _<_}
+use Prim.Native.Nat.{ℕ, suc, _+_, _-_, _*_, _/_, _≤_, _<_}
 use mathlib.Core.Path.{_≡_, refl, sym, _∙_, ap}
 use mathlib.Core.List.{List, [], _∷_, _++_, map, append-nil}
-use mathlib.Core.Bool.{Bool, true, false, cond, _&&_, and-eq-true-iff, false≢true}
-use native.Mathlib.Nat.{le-of-suc-le-suc, suc-mul, mul-one, div-one, add-zero, zero-add, div-lt-iff-lt-mul, le-div-iff-mul-le, mul-le-mul-right}
+use mathlib.Core.Bool.{Bool, true, false, cond, and-eq-true-iff}
+use native.Mathlib.Nat.{le-of-suc-le-suc, suc-mul, zero-add, div-lt-iff-lt-mul, le-div-iff-mul-le, mul-le-mul-right}
 use native.Mathlib.Numerals.{add-one}
 use native.Mathlib.Omega.{arith}
 use lib.Dec.{leb}
-use lib.ListN.{length, getD, take, drop, set, length-set, length-map, length-append, List·getD-append, drop-of-length-le}
+use lib.ListN.{length, getD, take, drop, set, length-set, length-map, List·getD-append, drop-of-length-le}
 use lib.Seq.{drop-cons, take-all, take-at}
 use lib.IntN.{ℤ, pos}
 use lib.Signed.{leZ}

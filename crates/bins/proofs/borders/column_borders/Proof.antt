@@ -1,9 +1,8 @@
 -- `bins::borders::column_borders` meets its contract. Assumes nothing.
-use Prim.Native.Nat.{ℕ, _≤_, _<_, _+_, _-_, _*_, _/_}
-use mathlib.Core.Path.{_≡_, refl, sym, ap, _∙_}
-use mathlib.Core.List.{List, _++_}
+use Prim.Native.Nat.{_≤_, _+_, _-_}
+use mathlib.Core.Path.{_≡_, sym, ap, _∙_}
+use mathlib.Core.List.{_++_}
 use native.Mathlib.Omega.{arith}
-use lib.IntN.{ℤ}
 use lib.ListN.{length, take, drop}
 use lib.ListN.{length-append}
 use lib.Seq.{length-take-le}
@@ -13,11 +12,6 @@ use Rattle.bins.proofs.SortLaws.{sort-length}
 use borrow.Author.Needs.{needs}
 use Rattle.bins.proofs.borders.column_borders.Statement.{statement}
 use Rattle.bins.proofs.borders.column_borders.Tie as tie
-use Rattle.bins.proofs.borders.column_borders.Reads as reads
-use Rattle.bins.proofs.borders.column_borders.Lts as lts
-use Rattle.bins.proofs.borders.fill_sample.Reads as fill-sample-reads
-use Rattle.bins.proofs.borders.take_borders.Reads as take-borders-reads
-use Rattle.bins.proofs.order.sort.Reads as sort-reads
 
 slice-aggregate-fill-sample : tie.Need-slice-aggregate-fill-sample
 slice-aggregate-fill-sample c = search needs

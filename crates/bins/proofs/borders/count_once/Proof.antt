@@ -1,22 +1,16 @@
 -- `bins::borders::count_once` meets its contract. Assumes nothing.
-use Prim.Native.Nat.{ℕ, _≤_, _<_, _+_, _-_, _*_, _/_}
-use mathlib.Core.Path.{_≡_, refl, sym, ap, _∙_}
-use mathlib.Core.List.{List, [], _∷_, _++_, append-nil}
-use mathlib.Core.Bool.{Bool, true, false, false≢true, true≢false}
+use Prim.Native.Nat.{_≤_, _+_, _-_}
+use mathlib.Core.Path.{_≡_, ap}
+use mathlib.Core.List.{List}
 use mathlib.Core.Logic.{⊎-elim}
 use native.Mathlib.Omega.{arith}
-use lib.IntN.{ℤ, pos}
-use lib.ListN.{length, take, drop, getD, set, length-set}
-use mir.Syntax.{w32}
-use mir.ValLaws.{toZ-ofZ}
+use lib.IntN.{ℤ}
+use lib.ListN.{length, drop}
 use borrow.Author.Needs.{needs}
 use Rattle.bins.specs.Bins.{once}
 use lib.ListN.{drop-of-length-le}
 use Rattle.bins.proofs.borders.count_once.Statement.{statement}
 use Rattle.bins.proofs.borders.count_once.Tie as tie
-use Rattle.bins.proofs.borders.count_once.Reads as reads
-use Rattle.bins.proofs.borders.count_once.Lts as lts
-use Rattle.bins.proofs.borders.is_last.Reads as is-last-reads
 
 abbrev Inv-loop : tie.InvT-loop
 Inv-loop s n₀ i₀ n i = (i ≤ length s) × (n ≤ i) × (n + length (once (drop i s)) ≡ length (once s))

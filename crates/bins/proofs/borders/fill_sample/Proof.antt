@@ -1,11 +1,9 @@
 -- `bins::borders::fill_sample` meets its contract. Assumes nothing.
-use Prim.Native.Nat.{ℕ, _≤_, _<_, _+_, _-_, _*_, _/_}
-use mathlib.Core.Path.{_≡_, refl, sym, ap, _∙_}
-use mathlib.Core.List.{List, [], _∷_, _++_, append-nil}
-use mathlib.Core.Bool.{Bool, true, false, false≢true, true≢false}
-use mathlib.Core.Logic.{⊎-elim}
+use Prim.Native.Nat.{ℕ, _≤_, _<_, _+_, _-_, _*_}
+use mathlib.Core.Path.{_≡_, refl, ap, _∙_}
+use mathlib.Core.List.{_++_}
 use native.Mathlib.Omega.{arith}
-use lib.IntN.{ℤ, pos}
+use lib.IntN.{pos}
 use lib.ListN.{length, take, drop, getD, set, length-set}
 use mir.Syntax.{w32}
 use mir.ValLaws.{toZ-ofZ}
@@ -13,12 +11,9 @@ use borrow.Author.Needs.{needs}
 use native.Mathlib.Nat.{suc-mul}
 use native.Mathlib.Numerals.{add-one}
 use Rattle.bins.specs.Bins.{readings, stride, sample}
-use Rattle.bins.proofs.SampleLaws.{stride-pos, stride-le, sample-length, sample-turn, sample-end}
+use Rattle.bins.proofs.SampleLaws.{stride-pos, stride-le, sample-turn, sample-end}
 use Rattle.bins.proofs.borders.fill_sample.Statement.{statement}
 use Rattle.bins.proofs.borders.fill_sample.Tie as tie
-use Rattle.bins.proofs.borders.fill_sample.Reads as reads
-use Rattle.bins.proofs.borders.fill_sample.Lts as lts
-use Rattle.bins.proofs.borders.stride_of.Reads as stride-of-reads
 
 abbrev Inv-loop : tie.InvT-loop
 Inv-loop column out₀ step i₀ at₀ out i at = (at ≡ i * stride (length column)) × (length out ≡ length out₀) × (i ≤ length (sample readings column)) × (take i out ++ drop i (sample readings column) ≡ sample readings column)

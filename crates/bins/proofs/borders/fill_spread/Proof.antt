@@ -1,12 +1,10 @@
 -- `bins::borders::fill_spread` meets its contract. Assumes nothing.
 use Prim.Native.Nat.{ℕ, _≤_, _<_, _+_, _-_, _*_, _/_}
 use mathlib.Core.Path.{_≡_, refl, sym, ap, _∙_}
-use mathlib.Core.List.{List, [], _∷_, _++_, append-nil}
-use mathlib.Core.Bool.{Bool, true, false, false≢true, true≢false}
-use mathlib.Core.Logic.{⊎-elim}
+use mathlib.Core.List.{_++_}
 use native.Mathlib.Omega.{arith}
-use lib.IntN.{ℤ, pos}
-use lib.ListN.{length, take, drop, getD, set, length-set}
+use lib.IntN.{pos}
+use lib.ListN.{length, take, drop, getD, length-set}
 use mir.Syntax.{w32}
 use mir.Val.{toZ, ofZ}
 use mir.ValLaws.{toZ-ofZ}
@@ -16,8 +14,6 @@ use Rattle.bins.specs.Bins.{spread}
 use Rattle.bins.proofs.SampleLaws.{spread-place, spread-more, spread-done}
 use Rattle.bins.proofs.borders.fill_spread.Statement.{statement}
 use Rattle.bins.proofs.borders.fill_spread.Tie as tie
-use Rattle.bins.proofs.borders.fill_spread.Reads as reads
-use Rattle.bins.proofs.borders.fill_spread.Lts as lts
 
 abbrev Inv-loop : tie.InvT-loop
 Inv-loop s out₀ m i₀ out i = (i ≤ 62) × (length out ≡ 63) × (take i out ++ drop i (spread s) ≡ spread s)

@@ -1,24 +1,20 @@
 -- `bins::borders::is_last` meets its contract. Assumes nothing.
-use Prim.Native.Nat.{ℕ, _≤_, _<_, _+_, _-_, _*_, _/_}
-use mathlib.Core.Path.{_≡_, refl, sym, ap, _∙_}
-use mathlib.Core.List.{List, [], _∷_, _++_, append-nil}
-use mathlib.Core.Bool.{Bool, true, false, false≢true, true≢false}
-use mathlib.Core.Logic.{⊎-elim}
+use Prim.Native.Nat.{_<_, _+_, _-_}
+use mathlib.Core.Path.{_≡_, sym, ap, _∙_}
+use mathlib.Core.Bool.{true≢false}
 use native.Mathlib.Omega.{arith}
-use lib.IntN.{ℤ, pos}
-use lib.ListN.{length, take, drop, getD, set, length-set}
+use lib.IntN.{pos}
+use lib.ListN.{length, getD}
 use mir.Syntax.{w32}
 use mir.ValLaws.{toZ-ofZ}
 use lib.Dec.{eqb}
 use lib.Arith.{lt-of-le-ne}
 use mir.Val.{ofZ, toZ}
-use borrow.Author.Tests.{eqb-true, eqb-false, eq-eqb, not-false, not-true}
+use borrow.Author.Tests.{eqb-true, eqb-false, not-false, not-true}
 use Rattle.bins.proofs.SampleLaws.{once-end, once-kept, once-passed}
 use borrow.Author.Needs.{needs}
 use Rattle.bins.proofs.borders.is_last.Statement.{statement}
 use Rattle.bins.proofs.borders.is_last.Tie as tie
-use Rattle.bins.proofs.borders.is_last.Reads as reads
-use Rattle.bins.proofs.borders.is_last.Lts as lts
 
 add-if1 : tie.Need-add-if1
 add-if1 c = search needs

@@ -1,11 +1,8 @@
 -- `bins::borders::stride_of` meets its contract. Assumes nothing.
-use mathlib.Core.Path.{_≡_, refl, sym}
 use borrow.Author.Tests.{le-leb, lt-leb}
 use borrow.Author.Needs.{needs}
 use Rattle.bins.proofs.borders.stride_of.Statement.{statement}
 use Rattle.bins.proofs.borders.stride_of.Tie as tie
-use Rattle.bins.proofs.borders.stride_of.Reads as reads
-use Rattle.bins.proofs.borders.stride_of.Lts as lts
 
 add-result : tie.Need-add-result
 add-result c = search needs

@@ -1,21 +1,16 @@
 -- `bins::borders::take_borders` meets its contract. Assumes nothing.
-use Prim.Native.Nat.{ℕ, _≤_, _<_, _+_, _-_, _*_, _/_}
-use mathlib.Core.Path.{_≡_, refl, sym, ap, _∙_}
-use mathlib.Core.List.{List, _++_}
+use Prim.Native.Nat.{_-_}
+use mathlib.Core.Path.{refl, sym, ap, _∙_}
+use mathlib.Core.List.{List}
 use native.Mathlib.Omega.{arith}
 use lib.IntN.{ℤ}
-use lib.ListN.{length, take, drop}
-use Rattle.bins.specs.Bins.{once, spread, borders-sorted}
+use lib.ListN.{length}
+use Rattle.bins.specs.Bins.{once}
 use Rattle.bins.proofs.BorderLaws.{once-length}
 use Rattle.bins.proofs.SampleLaws.{borders-few, borders-many, once-spread}
 use borrow.Author.Needs.{needs}
 use Rattle.bins.proofs.borders.take_borders.Statement.{statement}
 use Rattle.bins.proofs.borders.take_borders.Tie as tie
-use Rattle.bins.proofs.borders.take_borders.Reads as reads
-use Rattle.bins.proofs.borders.take_borders.Lts as lts
-use Rattle.bins.proofs.borders.count_once.Reads as count-once-reads
-use Rattle.bins.proofs.borders.fill_spread.Reads as fill-spread-reads
-use Rattle.bins.proofs.borders.write_once.Reads as write-once-reads
 
 count-once-requires : tie.Need-count-once-requires
 count-once-requires c κs = search needs

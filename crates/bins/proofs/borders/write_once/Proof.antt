@@ -1,8 +1,7 @@
 -- `bins::borders::write_once` meets its contract. Assumes nothing.
-use Prim.Native.Nat.{ℕ, _≤_, _<_, _+_, _-_, _*_, _/_}
+use Prim.Native.Nat.{ℕ, _≤_, _<_, _+_, _-_}
 use mathlib.Core.Path.{_≡_, refl, sym, ap, _∙_}
-use mathlib.Core.List.{List, [], _∷_, _++_, append-nil}
-use mathlib.Core.Bool.{Bool, true, false, false≢true, true≢false}
+use mathlib.Core.List.{List, [], _++_, append-nil}
 use mathlib.Core.Logic.{⊎-elim}
 use native.Mathlib.Omega.{arith}
 use lib.IntN.{ℤ, pos}
@@ -15,9 +14,6 @@ use lib.ListN.{drop-of-length-le}
 use Rattle.bins.proofs.SortLaws.{write-next}
 use Rattle.bins.proofs.borders.write_once.Statement.{statement}
 use Rattle.bins.proofs.borders.write_once.Tie as tie
-use Rattle.bins.proofs.borders.write_once.Reads as reads
-use Rattle.bins.proofs.borders.write_once.Lts as lts
-use Rattle.bins.proofs.borders.is_last.Reads as is-last-reads
 
 abbrev Inv-loop : tie.InvT-loop
 Inv-loop s out₀ n₀ i₀ out n i = (i ≤ length s) × (n + length (once (drop i s)) ≡ length (once s)) × (length out ≡ length out₀) × (take n out ++ once (drop i s) ≡ once s)
