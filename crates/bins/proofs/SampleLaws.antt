@@ -3,7 +3,7 @@ use Prim.Native.Nat.{ℕ, suc, _+_, _-_, _*_, _/_, _≤_, _<_}
 use mathlib.Core.Path.{_≡_, refl, sym, _∙_, ap}
 use mathlib.Core.List.{List, [], _∷_, _++_, map, append-nil}
 use mathlib.Core.Bool.{Bool, true, false, cond, and-eq-true-iff}
-use native.Mathlib.Nat.{le-of-suc-le-suc, suc-mul, zero-add, div-lt-iff-lt-mul, le-div-iff-mul-le, mul-le-mul-right}
+use native.Mathlib.Nat.{le-of-suc-le-suc, suc-mul, zero-add, div-lt-iff-lt-mul, le-div-iff-mul-le}
 use native.Mathlib.Numerals.{add-one}
 use native.Mathlib.Omega.{arith}
 use lib.Dec.{leb}
@@ -16,7 +16,7 @@ use Rattle.words.specs.Lists.{from, ceil}
 use Rattle.words.proofs.Order.{leZ-refl}
 use Rattle.words.proofs.ListLaws.{length-from}
 use Rattle.bins.specs.Bins.{Kind, stride, sampled, sample, sort, keep, once, eqZ, spread, borders-of, borders-sorted}
-use Rattle.bins.proofs.BorderLaws.{once-length}
+use Rattle.bins.proofs.BorderLaws.{both, once-length, spread-length}
 use Rattle.bins.proofs.LineLaws.{from-place}
 use Rattle.bins.proofs.SortLaws.{leZ-same, sort-length, write-next}
 
@@ -83,13 +83,6 @@ module _ (k : Kind) (col : List ℤ) where
 
 -- ---- the spread
 
-pub spread-long : (s : List ℤ) → length (spread s) ≡ 63
-unfolding spread
-spread-long s = refl
-
-pub spread-place : (m i : ℕ) → 0 < m → i < 62 → i * m / 62 < m
-spread-place m i p h = omega (arith, mul-le-mul-right {m = i} {n = 61} m (omega arith))
-
 spread-at : (s : List ℤ) (i : ℕ) → i < 62 → getD (spread s) i (pos 0) ≡ getD s (i * length s / 62) (pos 0)
 unfolding spread
 spread-at s i h =
@@ -103,7 +96,7 @@ spread-last s = refl
 
 spread-turn : (s out : List ℤ) (i : ℕ) (x : ℤ) → i < 63 → getD (spread s) i (pos 0) ≡ x → length out ≡ 63 → take i out ++ drop i (spread s) ≡ spread s → take (i + 1) (set out i x) ++ drop (i + 1) (spread s) ≡ spread s
 spread-turn s out i x h g l q =
-    let j : i < length (spread s) = omega (arith, spread-long s) in
+    let j : i < length (spread s) = omega (arith, spread-length s) in
     let d : drop i (spread s) ≡ x ∷ drop (i + 1) (spread s) = rw add-one (drop-cons (spread s) i (pos 0) j ∙ ap (λ (x : ℤ). x ∷ drop (suc i) (spread s)) g) in
     write-next out i x (drop (i + 1) (spread s)) (spread s) (omega arith) (ap (λ (t : List ℤ). take i out ++ t) (sym d) ∙ q)
 
@@ -117,7 +110,7 @@ spread-done s out l q = whole (set out 62 (getD s (length s - 1) (pos 0))) (leng
   where
     whole : (new : List ℤ) → length new ≡ 63 → take 63 new ++ drop 63 (spread s) ≡ spread s → new ≡ spread s
     whole new m e =
-        let d : drop 63 (spread s) ≡ [] = drop-of-length-le (spread s) {i = 63} (omega (arith, spread-long s)) in
+        let d : drop 63 (spread s) ≡ [] = drop-of-length-le (spread s) {i = 63} (omega (arith, spread-length s)) in
         sym (take-all 63 new (omega arith)) ∙ sym (append-nil (take 63 new)) ∙ ap (λ (t : List ℤ). take 63 new ++ t) (sym d) ∙ e
 
 -- ---- of equal neighbours one is kept
@@ -166,7 +159,7 @@ module _ (s : List ℤ) (i : ℕ) where
 
   -- no other one is
   pub once-passed : i + 1 < length s → getD s i (pos 0) ≡ getD s (i + 1) (pos 0) → once (drop i s) ≡ once (drop (i + 1) s)
-  once-passed h e = pair-here h ∙ ap (λ (t : Bool). cond t (once (drop (i + 1) s)) (getD s i (pos 0) ∷ once (drop (i + 1) s))) (ap (eqZ (getD s i (pos 0))) (sym e) ∙ and-eq-true-iff (leZ (getD s i (pos 0)) (getD s i (pos 0))) (leZ (getD s i (pos 0)) (getD s i (pos 0))) .1 (leZ-refl (getD s i (pos 0)), leZ-refl (getD s i (pos 0))))
+  once-passed h e = pair-here h ∙ ap (λ (t : Bool). cond t (once (drop (i + 1) s)) (getD s i (pos 0) ∷ once (drop (i + 1) s))) (ap (eqZ (getD s i (pos 0))) (sym e) ∙ both (leZ (getD s i (pos 0)) (getD s i (pos 0))) (leZ (getD s i (pos 0)) (getD s i (pos 0))) (leZ-refl (getD s i (pos 0))) (leZ-refl (getD s i (pos 0))))
 
 -- ---- the borders
 
@@ -179,7 +172,7 @@ unfolding borders-sorted borders-of
 borders-many s h = rw (lt-leb (length (once s)) 62 h)
 
 pub once-spread : (s : List ℤ) → length (once (spread s)) ≤ 63
-once-spread s = omega (arith, once-length (spread s), spread-long s)
+once-spread s = omega (arith, once-length (spread s), spread-length s)
 
 -- the first n values, after they were sorted where they stand, and given back as q
 pub front-sorted : (p q s : List ℤ) (n : ℕ) → n ≡ length s → take n p ≡ s → q ≡ sort (take n p) → take n (q ++ drop n p) ≡ sort s

@@ -11,7 +11,8 @@ use mir.ValLaws.{toZ-ofZ}
 use borrow.Author.Needs.{needs}
 use native.Mathlib.Nat.{mul-le-mul-right}
 use Rattle.bins.specs.Bins.{spread}
-use Rattle.bins.proofs.SampleLaws.{spread-place, spread-more, spread-done}
+use Rattle.bins.proofs.BorderLaws.{spread-place}
+use Rattle.bins.proofs.SampleLaws.{spread-more, spread-done}
 use Rattle.bins.proofs.borders.fill_spread.Statement.{statement}
 use Rattle.bins.proofs.borders.fill_spread.Tie as tie
 
