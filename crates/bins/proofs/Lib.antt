@@ -4,3 +4,4 @@ pub mod BorderLaws
 pub mod TurnLaws
 pub mod LineLaws
 pub mod SortLaws
+pub mod SampleLaws

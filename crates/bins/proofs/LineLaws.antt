@@ -1,14 +1,14 @@
 -- The imprints of a column, line by line. Assumes nothing.
 use mathlib.Core.Path.{_≡_, refl, sym, ap, _∙_}
-use Prim.Native.Nat.{ℕ, zero, suc, _+_, _*_, _≤_, _<_}
-use native.Mathlib.Nat.{le-of-suc-le-suc, add-zero, zero-add, suc-add, add-suc}
+use Prim.Native.Nat.{ℕ, zero, suc, _+_, _*_, _<_}
+use native.Mathlib.Nat.{le-of-suc-le-suc, add-zero, zero-add}
 use native.Mathlib.Omega.{arith}
 use mathlib.Core.List.{List, [], _∷_, map}
 use lib.IntN.{ℤ}
 use lib.ListN.{length, getD, take, drop}
 use lib.Seq.{drop-cons}
 use Rattle.words.specs.Lists.{from, ceil}
-use Rattle.bins.specs.Bins.{Kind, imprint, imprints, lines}
+use Rattle.bins.specs.Bins.{Kind, imprint, imprints}
 use Rattle.bins.proofs.BinLaws.{imprints-length}
 
 -- what stands at place i of a list of n values from number a on

@@ -4,14 +4,14 @@ use Prim.Native.Nat.{ℕ, zero, suc, _+_, _-_, _*_, _%_, _^_, _≤_, _<_}
 use native.Mathlib.Nat.{le-of-suc-le-suc, one-mul, add-zero}
 use native.Mathlib.Numerals.{add-one}
 use native.Mathlib.Omega.{arith}
-use mathlib.Core.Bool.{Bool, true, false, cond, _||_, _&&_, false≢true, true≢false, or-false, or-assoc, and-false}
+use mathlib.Core.Bool.{Bool, true, false, cond, _||_, _&&_, false≢true, true≢false, or-false, or-assoc}
 use mathlib.Core.List.{List, [], _∷_, _++_, map}
 use lib.Dec.{eqb, leb, lit<}
-use lib.Bits.{bitOr, or-shifted-r, or-zero-r}
+use lib.Bits.{bitOr, or-shifted-r}
 use lib.Pow.{shl-exact}
 use lib.IntN.{ℤ, pos, negsuc, predℤ}
-use lib.ListN.{length, getD, take, drop, length-map, List·getD-map, List·getD-append, length-append}
-use lib.Seq.{drop-cons, take-suc, getD-append-add}
+use lib.ListN.{length, getD, take, drop}
+use lib.Seq.{drop-cons, take-suc}
 use lib.Signed.{leZ, ltZ, mag}
 use mir.Syntax.{Width}
 use mir.Val.{toZ, ofZ, hbits, SFits}

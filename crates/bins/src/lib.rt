@@ -9,6 +9,7 @@ ghost use Rattle.words.specs.Bits.{word};
 ghost use Rattle.bins.specs.Bins.{readings, bin, imprint, rising, good-borders};
 ghost use Rattle.bins.specs.Masks.{matches, mask, inner, fate, first-of, last-of};
 
+pub mod borders;
 pub mod order;
 
 // A line's number: never a row's.

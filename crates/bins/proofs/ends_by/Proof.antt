@@ -1,13 +1,11 @@
 -- `bins::ends_by` meets its contract. Assumes nothing.
-use mathlib.Core.Path.{_≡_, sym, ap, ap₂, _∙_}
-use Prim.Native.Nat.{ℕ, _<_, _^_}
-use native.Mathlib.Omega.{arith}
-use mathlib.Core.Bool.{true, false}
+use mathlib.Core.Path.{sym, ap, ap₂, _∙_}
+use Prim.Native.Nat.{_^_}
 use lib.IntN.{ℤ, pos, predℤ, -ℤ-one}
 use lib.ListN.{getD}
-use lib.Signed.{leZ, mag}
+use lib.Signed.{leZ}
 use mir.Syntax.{w32}
-use mir.Val.{SFits, toZ, ofZ}
+use mir.Val.{SFits}
 use mir.ValLaws.{toZ-ofZ}
 use Rattle.bins.specs.Bins.{readings}
 use Rattle.bins.proofs.TurnLaws.{pred-le, pred-mag, plain-le, last-next, last-past}

@@ -1,5 +1,4 @@
 -- `bins::fate_of` meets its contract. Assumes nothing.
-use mathlib.Core.Path.{_≡_, refl, sym, ap, ap₂, _∙_}
 use borrow.Author.Tests.{eq-eqb, ne-eqb}
 use Rattle.words.proofs.BitOps.{share-and, outside-and}
 use Rattle.bins.specs.Masks.{fate}

@@ -1,7 +1,6 @@
 -- `bins::first_value` meets its contract. Assumes nothing.
-use mathlib.Core.Path.{_≡_, sym, ap, _∙_}
-use Prim.Native.Nat.{ℕ, _-_}
-use native.Mathlib.Omega.{arith}
+use mathlib.Core.Path.{sym, ap, _∙_}
+use Prim.Native.Nat.{_-_}
 use native.Mathlib.Nat.{eq-zero-or-pos}
 use mathlib.Core.Logic.{⊎-elim}
 use lib.IntN.{pos}

@@ -1,6 +1,5 @@
 -- `bins::in_range` meets its contract. Assumes nothing.
-use mathlib.Core.Path.{_≡_, sym, _∙_}
-use mathlib.Core.Bool.{true, false}
+use mathlib.Core.Path.{sym, _∙_}
 use mir.Syntax.{w32}
 use Rattle.bins.specs.Masks.{matches}
 use Rattle.bins.proofs.TurnLaws.{plain-le}

@@ -1,6 +1,6 @@
 -- `bins::line_imprint` meets its contract. Assumes nothing.
-use Prim.Native.Nat.{ℕ, _≤_, _<_, _-_, _+_, _*_, _%_, _^_}
-use mathlib.Core.Path.{_≡_, refl, sym, ap, _∙_}
+use Prim.Native.Nat.{ℕ, _≤_, _-_, _^_}
+use mathlib.Core.Path.{_≡_, sym, ap, _∙_}
 use native.Mathlib.Omega.{arith}
 use lib.ListN.{length, take, getD}
 use lib.Bits.{bitOr}
@@ -8,7 +8,6 @@ use lib.Seq.{take-all}
 use lib.IntN.{ℤ, pos}
 use borrow.Author.Needs.{needs}
 use mir.Syntax.{w32}
-use mir.Val.{toZ, ofZ}
 use mir.ValLaws.{toZ-ofZ}
 use Rattle.bins.specs.Bins.{readings, bin, imprint}
 use Rattle.bins.proofs.BinLaws.{bin-le}
