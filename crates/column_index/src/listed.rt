@@ -81,3 +81,48 @@ fn fill_run(rows: &mut [u32], at: usize, column: &[i32], line: Line, n: usize, i
         Fate::Compared => fill_matches(rows, at, part, first_row(line), ask),
     }
 }
+
+// The rows of lines with these imprints, from `line` on.
+fn fill_plain(rows: &mut [u32], at: usize, column: &[i32], line: Line, imprints: &[u64], ask: Ask) -> usize
+    requires { ⌜ (at + length (through readings (asked-of ask) (now column) (line .0) (now imprints) .ids) ≤ length (now rows)) × (line .0 + length (now imprints) ≤ 1048576) × (length (now column) ≤ 16777216) ⌝ }
+    ensures { λ r. ⌜ (now (rows .exit) ≡ sets (now (rows .entry)) at (through readings (asked-of ask) (now (column .entry)) (line .0) (now (imprints .entry)) .ids)) × (r ≡ at + length (through readings (asked-of ask) (now (column .entry)) (line .0) (now (imprints .entry)) .ids)) ⌝ }
+{
+    let first = line.0;
+    let mut n = at;
+    let mut i: usize = 0;
+    while i < imprints.len() {
+        n = fill_run(rows, n, column, Line(first + i), 1, imprints[i], ask);
+        i += 1;
+    }
+    n
+}
+
+// The rows of an entry's lines, from `line` on. The imprints begin with the entry's own.
+fn fill_entry(rows: &mut [u32], at: usize, column: &[i32], line: Line, d: u32, imprints: &[u64], ask: Ask) -> usize
+    requires { ⌜ (at + length (through readings (asked-of ask) (now column) (line .0) (entry-lines d (now imprints)) .ids) ≤ length (now rows)) × (line .0 + count-of d ≤ 1048576) × (length (now column) ≤ 16777216) × (entry-kept d ≤ length (now imprints)) ⌝ }
+    ensures { λ r. ⌜ (now (rows .exit) ≡ sets (now (rows .entry)) at (through readings (asked-of ask) (now (column .entry)) (line .0) (entry-lines d (now (imprints .entry))) .ids)) × (r ≡ at + length (through readings (asked-of ask) (now (column .entry)) (line .0) (entry-lines d (now (imprints .entry))) .ids)) ⌝ }
+{
+    let n = dictionary::count_of(d) as usize;
+    if dictionary::is_repeat(d) {
+        return fill_run(rows, at, column, line, n, imprints[0], ask);
+    }
+    fill_plain(rows, at, column, line, &imprints[..n], ask)
+}
+
+// The rows of all the lines of an index, at the front of a space that is long enough.
+pub fn fill_all(rows: &mut [u32], column: &[i32], imprints: &[u64], dictionary: &[u32], ask: Ask)
+    requires { ⌜ (Readable (now dictionary) (now imprints)) × (length (unpack (now dictionary) (now imprints)) ≤ 1048576) × (length (now column) ≤ 16777216) × (length (through readings (asked-of ask) (now column) 0 (unpack (now dictionary) (now imprints)) .ids) ≤ length (now rows)) ⌝ }
+    ensures { λ _. ⌜ now (rows .exit) ≡ sets (now (rows .entry)) 0 (through readings (asked-of ask) (now (column .entry)) 0 (unpack (now (dictionary .entry)) (now (imprints .entry))) .ids) ⌝ }
+{
+    let mut at: usize = 0;
+    let mut e: usize = 0;
+    let mut i: usize = 0;
+    let mut c: usize = 0;
+    while e < dictionary.len() {
+        let d = dictionary[e];
+        at = fill_entry(rows, at, column, Line(c), d, &imprints[i..], ask);
+        i += kept_by(d);
+        c += dictionary::count_of(d) as usize;
+        e += 1;
+    }
+}

@@ -1,3 +1,18 @@
+-- `column_index::listed::fill_run` meets its contract, fate by fate. Assumes nothing.
+use Prim.Native.Nat.{ℕ, _≤_, _<_, _+_, _*_}
+use mathlib.Core.Path.{_≡_, refl, sym, ap, ap₂, _∙_}
+use mathlib.Core.List.{List, []}
+use native.Mathlib.Omega.{arith}
+use native.Mathlib.Nat.{add-zero}
+use lib.ListN.{length}
+use lib.Seq.{sets}
+use lib.IntN.{ℤ}
+use Rattle.words.specs.Lists.{from}
+use Rattle.words.proofs.ListLaws.{length-from}
+use Rattle.bins.specs.Bins.{readings}
+use Rattle.column_index.specs.Search.{scan}
+use Rattle.column_index.specs.Runs.{asked-of, fate-in, values}
+use Rattle.column_index.proofs.FillLaws.{skipped-ids, whole-ids, compared-ids, rows-end}
 use borrow.Author.Needs.{needs}
 use Rattle.column_index.proofs.listed.fill_run.Statement.{statement}
 use Rattle.column_index.proofs.listed.fill_run.Tie as tie
@@ -18,6 +33,10 @@ fate-of-requires : tie.Need-fate-of-requires
 fate-of-requires c κs = search needs
 
 -- src/listed.rt:76:26
+-- what `fate_of` says, among all 64 bits
+fated : (c : tie.After-fate-of) → fate-in (asked-of (c .before .before .before .args .ask)) (c .before .before .before .args .imprint) ≡ c .fate-of .result
+fated c = sym (c .fate-of .ensures 64 (c .before .before .before .fits .imprint .fits))
+
 enum-told : tie.Need-enum-told
 enum-told c = search needs
 
@@ -31,7 +50,13 @@ first-row-requires c κs = search needs
 
 -- src/listed.rt:78:13
 fill-whole-requires : tie.Need-fill-whole-requires
-fill-whole-requires c κs = ?
+fill-whole-requires c κs =
+    let s = c .before .before .before .before .before .before .before in
+    let a = s .args in
+    let e = ap length (c .before .before .before .before .before .lines-of .ensures) in
+    let i = ap length (whole-ids readings (asked-of (a .ask)) (a .column .now) (a .imprint) (a .line .0) (a .n) (fated (c .before .before .before .before) ∙ c .before .before .enum-told2 .given .1)) in
+    let n = length (values readings (a .column .now) (a .line .0) (a .n)) in
+    (omega (arith, s .pre .0, e, i, length-from n (16 * a .line .0)), omega (arith, rows-end (a .column .now) (a .line .0) (a .n) (omega (arith, s .pre .1)) (s .pre .2), e, c .first-row .ensures))
 
 -- src/listed.rt:79:13
 add-result : tie.Need-add-result
@@ -47,11 +72,20 @@ first-row-requires-2 c κs = search needs
 
 -- src/listed.rt:81:27
 fill-matches-requires : tie.Need-fill-matches-requires
-fill-matches-requires c κs = ?
+fill-matches-requires c κs =
+    let s = c .before .before .before .before .before .before .before in
+    let a = s .args in
+    let e = c .before .before .before .before .before .lines-of .ensures in
+    let i = ap length (compared-ids readings (asked-of (a .ask)) (a .column .now) (a .imprint) (a .line .0) (a .n) (fated (c .before .before .before .before) ∙ c .before .before .enum-told3 .given .1)) in
+    let m = ap₂ (λ (r : ℕ) (l : List ℤ). length (scan readings (a .ask .low) (a .ask .high) r l)) (c .first-row2 .ensures) e in
+    (omega (arith, s .pre .0, m, i), omega (arith, rows-end (a .column .now) (a .line .0) (a .n) (omega (arith, s .pre .1)) (s .pre .2), ap length e, c .first-row2 .ensures))
 
 -- src/listed.rt:70:1
 returns : tie.Need-returns
-returns c = ?
+returns c =
+    let a = c .before .before .before .before .before .args in
+    let i = skipped-ids readings (asked-of (a .ask)) (a .column .now) (a .imprint) (a .line .0) (a .n) (fated (c .before .before) ∙ c .enum-told .given .1) in
+    (sym (ap (sets (a .rows .now) (a .at)) i), sym (ap (λ (l : List ℕ). a .at + length l) i ∙ add-zero (a .at)))
 
 -- src/listed.rt:70:1
 same-length : tie.Need-same-length
@@ -59,7 +93,12 @@ same-length c = search needs
 
 -- src/listed.rt:70:1
 returns-2 : tie.Need-returns-2
-returns-2 c = ?
+returns-2 c =
+    let a = c .before .before .before .before .before .before .before .before .before .before .args in
+    let e = ap length (c .before .before .before .before .before .before .before .before .lines-of .ensures) in
+    let i = whole-ids readings (asked-of (a .ask)) (a .column .now) (a .imprint) (a .line .0) (a .n) (fated (c .before .before .before .before .before .before .before) ∙ c .before .before .before .before .before .enum-told2 .given .1) in
+    let n = length (values readings (a .column .now) (a .line .0) (a .n)) in
+    (c .before .before .fill-whole .ensures ∙ ap₂ (λ (r m : ℕ). sets (a .rows .now) (a .at) (from r m)) (c .before .before .before .first-row .ensures) e ∙ ap (sets (a .rows .now) (a .at)) (sym i), omega (arith, e, ap length i, length-from n (16 * a .line .0)))
 
 -- src/listed.rt:70:1
 same-length-2 : tie.Need-same-length-2
@@ -67,7 +106,12 @@ same-length-2 c = search needs
 
 -- src/listed.rt:70:1
 returns-3 : tie.Need-returns-3
-returns-3 c = ?
+returns-3 c =
+    let a = c .before .before .before .before .before .before .before .before .before .before .args in
+    let i = compared-ids readings (asked-of (a .ask)) (a .column .now) (a .imprint) (a .line .0) (a .n) (fated (c .before .before .before .before .before .before .before) ∙ c .before .before .before .before .before .enum-told3 .given .1) in
+    let m = ap₂ (λ (r : ℕ) (l : List ℤ). scan readings (a .ask .low) (a .ask .high) r l) (c .before .before .before .first-row2 .ensures) (c .before .before .before .before .before .before .before .before .lines-of .ensures) ∙ sym i in
+    let e = c .before .before .fill-matches .ensures in
+    (e .0 ∙ ap (sets (a .rows .now) (a .at)) m, e .1 ∙ ap (λ (l : List ℕ). a .at + length l) m)
 
 pub fill-run-spec : {M : Type 1} → statement M
 fill-run-spec =
