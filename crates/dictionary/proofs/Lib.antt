@@ -10,3 +10,5 @@ pub mod IndexLaws
 pub mod StepLaws
 pub mod TurnLaws
 pub mod PackLoops
+pub mod FitLaws
+pub mod EntryLaws

@@ -1,3 +1,4 @@
 pub mod Dictionary
 pub mod Position
 pub mod Packer
+pub mod Entries
