@@ -12,3 +12,5 @@ pub mod TurnLaws
 pub mod PackLoops
 pub mod FitLaws
 pub mod EntryLaws
+pub mod ScanLaws
+pub mod GoodLaws
