@@ -11,3 +11,7 @@ pub mod PositionLaws
 pub mod StepLaws
 pub mod TurnLaws
 pub mod PackLoops
+pub mod FitLaws
+pub mod EntryLaws
+pub mod ScanLaws
+pub mod GoodLaws

@@ -1,3 +1,5 @@
 pub mod Dictionary
 pub mod Position
 pub mod Packer
+pub mod Entries
+pub mod Scan

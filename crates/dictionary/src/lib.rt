@@ -1,6 +1,9 @@
 // The packed line dictionary: packing, unpacking, acceptance, and positions in it.
 
+pub mod accepting; // accepting.rt: which words are an index
+pub mod fitting; // fitting.rt: imprints that some line could have
 pub mod packing; // packing.rt: packing, one imprint at a time
+pub mod unpacking; // unpacking.rt: the lines that the words stand for
 
 ghost use mathlib.Core.Path.{_≡_};
 ghost use Prim.Native.Nat.{suc, _+_, _^_, _<_, _≤_};
