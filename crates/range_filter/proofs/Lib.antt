@@ -10,6 +10,7 @@ pub mod PutLaws
 pub mod LeafLaws
 pub mod OneTree
 pub mod LayoutLaws
+pub mod LoadLaws
 pub mod Bound
 pub mod ForgetLaws
 pub mod Examples

@@ -7,3 +7,4 @@ pub mod Place
 pub mod Seen
 pub mod Form
 pub mod Found
+pub mod Loaded

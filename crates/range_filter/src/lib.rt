@@ -7,6 +7,7 @@ ghost use Rattle.range_filter.specs.Place.{At, AllIn, Says, Place, Holds
 ghost use Rattle.range_filter.specs.Seen.{Saw};
 ghost use Rattle.range_filter.specs.Form.{formOf, splitsOf, joinForm, Laid, Halved, Sub, Spot, kindOf, Fill, Wrote, Parted};
 ghost use Rattle.range_filter.specs.Found.{orElse, moved, pairHere, firstFrom, Below};
+ghost use Rattle.range_filter.specs.Loaded.{IsLoaded};
 ghost use lib.ListN.{length, take, drop};
 ghost use lib.Seq.{sets};
 
@@ -402,4 +403,60 @@ fn first_pair(w: &[u32], at: Node, k: u32, span: u32, from: u32) -> Found
     let left = first_pair(w, Node(p + 1), k - 1, half, from);
     let right = first_pair(w, Node(q), k - 1, half, less(from, half));
     or_else(here, or_else(left, shifted(right, half)))
+}
+
+// A key of the filter.
+pub struct Key(pub u32);
+
+// A filter's header, and the words of its tree.
+struct Head {
+    levels: u32,
+    room: u32,
+    hand: Key,
+    n: usize,
+}
+
+enum Loaded {
+    Bad,
+    Good(Head),
+}
+
+// The filter's header and its tree's words, or that the words are no filter.
+fn load(w: &[u32]) -> Loaded
+    ensures { λ r. ⌜ IsLoaded (now (w .entry)) r ⌝ }
+{
+    if w.len() < 3 {
+        return Loaded::Bad;
+    }
+    let levels = w[0];
+    let room = w[1];
+    let hand = w[2];
+    if levels < 1 {
+        return Loaded::Bad;
+    }
+    if 20 < levels {
+        return Loaded::Bad;
+    }
+    if 4095 < room {
+        return Loaded::Bad;
+    }
+    let most = room as usize * 2 + 1;
+    if w.len() < most + 3 {
+        return Loaded::Bad;
+    }
+    if span_of(levels) <= hand {
+        return Loaded::Bad;
+    }
+    let Seen::Good(n) = valid(w, Node(3), levels) else {
+        return Loaded::Bad;
+    };
+    if most < n {
+        return Loaded::Bad;
+    }
+    Loaded::Good(Head {
+        levels,
+        room,
+        hand: Key(hand),
+        n,
+    })
 }
