@@ -11,6 +11,7 @@ pub mod LeafLaws
 pub mod OneTree
 pub mod LayoutLaws
 pub mod LoadLaws
+pub mod PromiseLaws
 pub mod Bound
 pub mod ForgetLaws
 pub mod Examples

@@ -2,6 +2,7 @@
 pub mod Tree
 pub mod Layout
 pub mod Calls
+pub mod Promise
 pub mod Examples
 pub mod Place
 pub mod Seen

@@ -8,6 +8,7 @@ ghost use Rattle.range_filter.specs.Seen.{Saw};
 ghost use Rattle.range_filter.specs.Form.{formOf, splitsOf, joinForm, Laid, Halved, Sub, Spot, kindOf, Fill, Wrote, Parted};
 ghost use Rattle.range_filter.specs.Found.{orElse, moved, pairHere, firstFrom, Below};
 ghost use Rattle.range_filter.specs.Loaded.{IsLoaded};
+ghost use Rattle.range_filter.specs.Promise.{Ask};
 ghost use lib.ListN.{length, take, drop};
 ghost use lib.Seq.{sets};
 
@@ -459,4 +460,39 @@ fn load(w: &[u32]) -> Loaded
         hand: Key(hand),
         n,
     })
+}
+
+// What asking a range answers.
+pub enum Asked {
+    NoFilter,
+    NoKey,
+    Order,
+    Look,
+    Denied,
+}
+
+// Denied exactly when all keys low to high are in D, else look.
+pub fn ask(w: &[u32], low: Key, high: Key) -> Asked
+    ensures { λ r. ⌜ Ask (now (w .entry)) (low .0) (high .0) r ⌝ }
+{
+    let Loaded::Good(h) = load(w) else {
+        return Asked::NoFilter;
+    };
+    let lo = low.0;
+    let hi = high.0;
+    let levels = h.levels;
+    let span = span_of(levels);
+    if span <= lo {
+        return Asked::NoKey;
+    }
+    if span <= hi {
+        return Asked::NoKey;
+    }
+    if hi < lo {
+        return Asked::Order;
+    }
+    if all_in(w, Node(3), levels, span, lo, hi) {
+        return Asked::Denied;
+    }
+    Asked::Look
 }

@@ -1,0 +1,62 @@
+-- Document 01, "Numbers it comes back with" and "The filter tree": what each call answers, refusals in their order, and every lent word afterwards. Assumes nothing.
+use mathlib.Core.Path.{_≡_}
+use mathlib.Core.Bool.{Bool, true, false, cond, _||_}
+use mathlib.Core.List.{List, [], _∷_}
+use Prim.Native.Nat.{ℕ, _^_}
+use lib.Dec.{ltb, leb, eqb}
+use lib.ListN.{length}
+use lib.Seq.{sets}
+use Rattle.words.specs.Numbers.{Number, numbered, done, low-above-high, space-too-short, bad-levels, no-key, no-filter, no-room, nothing-to-forget, room-too-large}
+use Rattle.range_filter.specs.Tree.{splits}
+use Rattle.range_filter.specs.Layout.{Memory, treeIn, layout, wordsNeeded, Filter}
+use Rattle.range_filter.specs.Calls.{freshMemory, allIn, learnt, tooMany, arrived, single, forgotten}
+use Rattle.range_filter.specs.declared.Asked.{Asked}
+use Rattle.range_filter.specs.declared.Asked.the-variants as asked
+
+-- A call that only reads the words: its answer is this function of what they mean, or the one answer for words that are no filter.
+pub record Told {A : Type 0} (w : List ℕ) (refused : A) (answer : Memory → A) (r : A) : Type 0 where
+  pub meant : (m : Memory) → Filter w m → r ≡ answer m
+  pub not-meant : ((m : Memory) → Filter w m → ⊥) → r ≡ refused
+
+-- A call that may change the words: its answer as above, and the words afterwards.
+pub record Kept {A : Type 0} (w : List ℕ) (refused : A) (answer : Memory → A) (words : Memory → List ℕ) (r : A) (w′ : List ℕ) : Type 0 where
+  pub told : Told w refused answer r
+  pub meant-words : (m : Memory) → Filter w m → w′ ≡ words m
+  pub not-meant-words : ((m : Memory) → Filter w m → ⊥) → w′ ≡ w
+
+-- the words after an answer: number 0 lays out m, any other changes nothing
+abbrev pub wordsAfter : ℕ → List ℕ → Memory → List ℕ
+wordsAfter number w m = cond (eqb number 0) (sets w 0 (layout m)) w
+
+-- x is no key
+abbrev pub outside : Memory → ℕ → Bool
+outside m x = leb (2 ^ m .levels) x
+
+-- 7, then 1, then what the call does
+abbrev pub ofRange : {A : Type 0} → A → A → ℕ → ℕ → Memory → A → A
+ofRange noKey order lo hi m a = cond (outside m lo || outside m hi) noKey (cond (ltb hi lo) order a)
+
+-- 7, then what the call does
+abbrev pub ofKey : {A : Type 0} → A → ℕ → Memory → A → A
+ofKey noKey x m a = cond (outside m x) noKey a
+
+-- ask: 8, 7, 1; the value beside the number is 1 for denied
+abbrev pub askedNumber : Asked → ℕ
+askedNumber asked.NoFilter = numbered no-filter
+askedNumber asked.NoKey = numbered no-key
+askedNumber asked.Order = numbered low-above-high
+askedNumber asked.Look = numbered done
+askedNumber asked.Denied = numbered done
+
+abbrev pub askedBeside : Asked → ℕ
+askedBeside asked.NoFilter = 0
+askedBeside asked.NoKey = 0
+askedBeside asked.Order = 0
+askedBeside asked.Look = 0
+askedBeside asked.Denied = 1
+
+abbrev pub askAnswer : ℕ → ℕ → Memory → Asked
+askAnswer lo hi m = ofRange asked.NoKey asked.Order lo hi m (cond (allIn (m .set) lo hi) asked.Denied asked.Look)
+
+abbrev pub Ask : List ℕ → ℕ → ℕ → Asked → Type 0
+Ask w lo hi r = Told w asked.NoFilter (askAnswer lo hi) r
