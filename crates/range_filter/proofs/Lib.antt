@@ -12,6 +12,7 @@ pub mod OneTree
 pub mod LayoutLaws
 pub mod LoadLaws
 pub mod PromiseLaws
+pub mod ReadLaws
 pub mod Bound
 pub mod ForgetLaws
 pub mod Examples

@@ -12,6 +12,10 @@ use Rattle.range_filter.specs.Layout.{Memory, treeIn, layout, wordsNeede
 use Rattle.range_filter.specs.Calls.{freshMemory, allIn, learnt, tooMany, arrived, single, forgotten}
 use Rattle.range_filter.specs.declared.Asked.{Asked}
 use Rattle.range_filter.specs.declared.Asked.the-variants as asked
+use Rattle.range_filter.specs.declared.Departed.{Departed}
+use Rattle.range_filter.specs.declared.Departed.the-variants as departed
+use Rattle.range_filter.specs.declared.Reading.{Reading}
+use Rattle.range_filter.specs.declared.Reading.the-variants as reading
 
 -- A call that only reads the words: its answer is this function of what they mean, or the one answer for words that are no filter.
 pub record Told {A : Type 0} (w : List ℕ) (refused : A) (answer : Memory → A) (r : A) : Type 0 where
@@ -60,3 +64,30 @@ askAnswer lo hi m = ofRange asked.NoKey asked.Order lo hi m (cond (allIn (m .set
 
 abbrev pub Ask : List ℕ → ℕ → ℕ → Asked → Type 0
 Ask w lo hi r = Told w asked.NoFilter (askAnswer lo hi) r
+
+-- departure: 8, 7
+abbrev pub departedNumber : Departed → ℕ
+departedNumber departed.NoFilter = numbered no-filter
+departedNumber departed.NoKey = numbered no-key
+departedNumber departed.Done = numbered done
+
+abbrev pub departAnswer : ℕ → Memory → Departed
+departAnswer x m = ofKey departed.NoKey x m departed.Done
+
+abbrev pub Depart : List ℕ → ℕ → Departed → Type 0
+Depart w x r = Told w departed.NoFilter (departAnswer x) r
+
+-- read: 8; beside 0 stand levels, room, hand and splits
+abbrev pub readingNumber : Reading → ℕ
+readingNumber reading.NoFilter = numbered no-filter
+readingNumber (reading.Means h) = numbered done
+
+abbrev pub readingBeside : Reading → List ℕ
+readingBeside reading.NoFilter = 0 ∷ 0 ∷ 0 ∷ 0 ∷ []
+readingBeside (reading.Means h) = h .levels ∷ h .room ∷ h .hand .0 ∷ h .splits ∷ []
+
+abbrev pub readAnswer : Memory → Reading
+readAnswer m = reading.Means (record { levels = m .levels; room = m .room; hand = record { 0 = m .hand }; splits = splits (treeIn m) })
+
+abbrev pub Read : List ℕ → Reading → Type 0
+Read w r = Told w reading.NoFilter readAnswer r

@@ -8,7 +8,7 @@ ghost use Rattle.range_filter.specs.Seen.{Saw};
 ghost use Rattle.range_filter.specs.Form.{formOf, splitsOf, joinForm, Laid, Halved, Sub, Spot, kindOf, Fill, Wrote, Parted};
 ghost use Rattle.range_filter.specs.Found.{orElse, moved, pairHere, firstFrom, Below};
 ghost use Rattle.range_filter.specs.Loaded.{IsLoaded};
-ghost use Rattle.range_filter.specs.Promise.{Ask};
+ghost use Rattle.range_filter.specs.Promise.{Ask, Depart, Read};
 ghost use lib.ListN.{length, take, drop};
 ghost use lib.Seq.{sets};
 
@@ -495,4 +495,54 @@ pub fn ask(w: &[u32], low: Key, high: Key) -> Asked
         return Asked::Denied;
     }
     Asked::Look
+}
+
+// What the report of a departure answers.
+pub enum Departed {
+    NoFilter,
+    NoKey,
+    Done,
+}
+
+// A departure changes nothing, since another row may carry the same key.
+pub fn departure(w: &[u32], key: Key) -> Departed
+    ensures { λ r. ⌜ Depart (now (w .entry)) (key .0) r ⌝ }
+{
+    let Loaded::Good(h) = load(w) else {
+        return Departed::NoFilter;
+    };
+    let x = key.0;
+    if span_of(h.levels) <= x {
+        return Departed::NoKey;
+    }
+    Departed::Done
+}
+
+// What accepted words mean, beside the set D.
+pub struct Meaning {
+    pub levels: u32,
+    pub room: u32,
+    pub hand: Key,
+    pub splits: u32,
+}
+
+pub enum Reading {
+    NoFilter,
+    Means(Meaning),
+}
+
+// What the words mean, for a fitter to see.
+pub fn read(w: &[u32]) -> Reading
+    ensures { λ r. ⌜ Read (now (w .entry)) r ⌝ }
+{
+    let Loaded::Good(h) = load(w) else {
+        return Reading::NoFilter;
+    };
+    let hand = h.hand;
+    Reading::Means(Meaning {
+        levels: h.levels,
+        room: h.room,
+        hand,
+        splits: (h.n / 2) as u32,
+    })
 }
