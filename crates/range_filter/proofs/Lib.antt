@@ -13,6 +13,7 @@ pub mod LayoutLaws
 pub mod LoadLaws
 pub mod PromiseLaws
 pub mod ReadLaws
+pub mod RepaintLaws
 pub mod Bound
 pub mod ForgetLaws
 pub mod Examples

@@ -10,7 +10,7 @@ use Rattle.range_filter.specs.Layout.{Memory, Filter}
 use Rattle.range_filter.specs.Calls.{run, allIn}
 use Rattle.range_filter.specs.Tree.{treeOf}
 use Rattle.range_filter.specs.Place.{At, AllIn, Says}
-use Rattle.range_filter.specs.Promise.{Told, Kept, ofRange, ofKey}
+use Rattle.range_filter.specs.Promise.{Told, Kept, wordsAfter, ofRange, ofKey}
 use Rattle.range_filter.specs.Loaded.{Heads}
 use Rattle.range_filter.specs.declared.Head.{Head}
 use Rattle.range_filter.proofs.LayoutLaws.{tree-at}
@@ -22,12 +22,13 @@ module _ {A : Type 0} (w : List ℕ) (refused : A) (answer : Memory → A) where
   abbrev pub told-good : (r : A) (m : Memory) → Filter w m → ((n : Memory) → Filter w n → r ≡ answer n) → Told w refused answer r
   told-good r m f all = record { meant = all; not-meant = λ bad. absurd (bad m f) }
 
-  abbrev pub kept-bad : (words : Memory → List ℕ) → ((m : Memory) → Filter w m → ⊥) → Kept w refused answer words refused w
-  kept-bad words bad = record { told = told-bad bad; meant-words = λ m f. absurd (bad m f); not-meant-words = λ _. refl }
+module _ {A : Type 0} (w : List ℕ) (refused : A) (number : A → ℕ) (answer : Memory → A) (next : Memory → Memory) where
+  abbrev pub kept-bad : ((m : Memory) → Filter w m → ⊥) → Kept w refused number answer next refused w
+  kept-bad bad = record { told = told-bad w refused answer bad; meant-words = λ m f. absurd (bad m f); not-meant-words = λ _. refl }
 
-  abbrev pub kept-good : (words : Memory → List ℕ) (r : A) (w′ : List ℕ) (m : Memory) → Filter w m → ((n : Memory) → Filter w n → (r ≡ answer n) × (w′ ≡ words n)) → Kept w refused answer words r w′
-  kept-good words r w′ m f all = record {
-    told = told-good r m f (λ n g. all n g .0);
+  abbrev pub kept-good : (r : A) (w′ : List ℕ) (m : Memory) → Filter w m → ((n : Memory) → Filter w n → (r ≡ answer n) × (w′ ≡ wordsAfter (number r) w (next n))) → Kept w refused number answer next r w′
+  kept-good r w′ m f all = record {
+    told = told-good w refused answer r m f (λ n g. all n g .0);
     meant-words = λ n g. all n g .1;
     not-meant-words = λ bad. absurd (bad m f);
   }

@@ -9,3 +9,4 @@ pub mod Seen
 pub mod Form
 pub mod Found
 pub mod Loaded
+pub mod Repaint

@@ -12,6 +12,10 @@ use Rattle.range_filter.specs.Layout.{Memory, treeIn, layout, wordsNeede
 use Rattle.range_filter.specs.Calls.{freshMemory, allIn, learnt, tooMany, arrived, single, forgotten}
 use Rattle.range_filter.specs.declared.Asked.{Asked}
 use Rattle.range_filter.specs.declared.Asked.the-variants as asked
+use Rattle.range_filter.specs.declared.Learnt.{Learnt}
+use Rattle.range_filter.specs.declared.Learnt.the-variants as taught
+use Rattle.range_filter.specs.declared.Arrived.{Arrived}
+use Rattle.range_filter.specs.declared.Arrived.the-variants as came
 use Rattle.range_filter.specs.declared.Departed.{Departed}
 use Rattle.range_filter.specs.declared.Departed.the-variants as departed
 use Rattle.range_filter.specs.declared.Reading.{Reading}
@@ -22,15 +26,15 @@ pub record Told {A : Type 0} (w : List ℕ) (refused : A) (answer : Memory → A
   pub meant : (m : Memory) → Filter w m → r ≡ answer m
   pub not-meant : ((m : Memory) → Filter w m → ⊥) → r ≡ refused
 
--- A call that may change the words: its answer as above, and the words afterwards.
-pub record Kept {A : Type 0} (w : List ℕ) (refused : A) (answer : Memory → A) (words : Memory → List ℕ) (r : A) (w′ : List ℕ) : Type 0 where
-  pub told : Told w refused answer r
-  pub meant-words : (m : Memory) → Filter w m → w′ ≡ words m
-  pub not-meant-words : ((m : Memory) → Filter w m → ⊥) → w′ ≡ w
-
 -- the words after an answer: number 0 lays out m, any other changes nothing
 abbrev pub wordsAfter : ℕ → List ℕ → Memory → List ℕ
 wordsAfter number w m = cond (eqb number 0) (sets w 0 (layout m)) w
+
+-- A call that may change the words: its answer as above, and the words afterwards, where number 0 makes them mean `next` of what they meant.
+pub record Kept {A : Type 0} (w : List ℕ) (refused : A) (number : A → ℕ) (answer : Memory → A) (next : Memory → Memory) (r : A) (w′ : List ℕ) : Type 0 where
+  pub told : Told w refused answer r
+  pub meant-words : (m : Memory) → Filter w m → w′ ≡ wordsAfter (number r) w (next m)
+  pub not-meant-words : ((m : Memory) → Filter w m → ⊥) → w′ ≡ w
 
 -- x is no key
 abbrev pub outside : Memory → ℕ → Bool
@@ -91,3 +95,29 @@ readAnswer m = reading.Means (record { levels = m .levels; room = m .room; hand 
 
 abbrev pub Read : List ℕ → Reading → Type 0
 Read w r = Told w reading.NoFilter readAnswer r
+
+-- learn: 8, 7, 1, 9; D gains the range
+abbrev pub learntNumber : Learnt → ℕ
+learntNumber taught.NoFilter = numbered no-filter
+learntNumber taught.NoKey = numbered no-key
+learntNumber taught.Order = numbered low-above-high
+learntNumber taught.NoRoom = numbered no-room
+learntNumber taught.Done = numbered done
+
+abbrev pub learnAnswer : ℕ → ℕ → Memory → Learnt
+learnAnswer lo hi m = ofRange taught.NoKey taught.Order lo hi m (cond (tooMany (learnt m lo hi)) taught.NoRoom taught.Done)
+
+abbrev pub Learn : List ℕ → ℕ → ℕ → Learnt → List ℕ → Type 0
+Learn w lo hi r w′ = Kept w taught.NoFilter learntNumber (learnAnswer lo hi) (λ m. learnt m lo hi) r w′
+
+-- arrival: 8, 7; the whole leaf that holds the key leaves D
+abbrev pub arrivedNumber : Arrived → ℕ
+arrivedNumber came.NoFilter = numbered no-filter
+arrivedNumber came.NoKey = numbered no-key
+arrivedNumber came.Done = numbered done
+
+abbrev pub arriveAnswer : ℕ → Memory → Arrived
+arriveAnswer x m = ofKey came.NoKey x m came.Done
+
+abbrev pub Arrive : List ℕ → ℕ → Arrived → List ℕ → Type 0
+Arrive w x r w′ = Kept w came.NoFilter arrivedNumber (arriveAnswer x) (λ m. arrived m x) r w′

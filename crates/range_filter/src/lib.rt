@@ -9,6 +9,7 @@ ghost use Rattle.range_filter.specs.Form.{formOf, splitsOf, joinForm, La
 ghost use Rattle.range_filter.specs.Found.{orElse, moved, pairHere, firstFrom, Below};
 ghost use Rattle.range_filter.specs.Loaded.{IsLoaded};
 ghost use Rattle.range_filter.specs.Promise.{Ask, Depart, Read};
+ghost use Rattle.range_filter.specs.Repaint.{Ready, Painted};
 ghost use lib.ListN.{length, take, drop};
 ghost use lib.Seq.{sets};
 
@@ -545,4 +546,30 @@ pub fn read(w: &[u32]) -> Reading
         hand,
         splits: (h.n / 2) as u32,
     })
+}
+
+// Puts the keys lo to hi of the tree of n words at 3 in (b), or takes them out.
+fn repaint(w: &mut [u32], n: usize, levels: u32, span: u32, lo: u32, hi: u32, b: bool)
+    requires { ⌜ Ready (now w) n levels span lo hi b ⌝ }
+    ensures { λ _. ⌜ Painted (now (w .entry)) (now (w .exit)) levels lo hi b ⌝ }
+{
+    let mut old = [0u32; 8191];
+    copy(w, 3, n, &mut old, 0);
+    put(&old, Node(0), n, levels, span, lo, hi, b, w, Node(3));
+}
+
+// What learning a range answers.
+pub enum Learnt {
+    NoFilter,
+    NoKey,
+    Order,
+    NoRoom,
+    Done,
+}
+
+// What the report of an arrival answers.
+pub enum Arrived {
+    NoFilter,
+    NoKey,
+    Done,
 }
