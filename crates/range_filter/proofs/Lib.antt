@@ -14,6 +14,7 @@ pub mod LoadLaws
 pub mod PromiseLaws
 pub mod ReadLaws
 pub mod RepaintLaws
+pub mod LearnLaws
 pub mod Bound
 pub mod ForgetLaws
 pub mod Examples

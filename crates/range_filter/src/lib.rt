@@ -8,7 +8,7 @@ ghost use Rattle.range_filter.specs.Seen.{Saw};
 ghost use Rattle.range_filter.specs.Form.{formOf, splitsOf, joinForm, Laid, Halved, Sub, Spot, kindOf, Fill, Wrote, Parted};
 ghost use Rattle.range_filter.specs.Found.{orElse, moved, pairHere, firstFrom, Below};
 ghost use Rattle.range_filter.specs.Loaded.{IsLoaded};
-ghost use Rattle.range_filter.specs.Promise.{Ask, Depart, Read};
+ghost use Rattle.range_filter.specs.Promise.{Ask, Learn, Arrive, Depart, Read};
 ghost use Rattle.range_filter.specs.Repaint.{Ready, Painted};
 ghost use lib.ListN.{length, take, drop};
 ghost use lib.Seq.{sets};
@@ -567,9 +567,56 @@ pub enum Learnt {
     Done,
 }
 
+// D gains the keys low to high.
+pub fn learn(w: &mut [u32], low: Key, high: Key) -> Learnt
+    ensures { λ r. ⌜ Learn (now (w .entry)) (low .0) (high .0) r (now (w .exit)) ⌝ }
+{
+    let Loaded::Good(h) = load(w) else {
+        return Learnt::NoFilter;
+    };
+    let lo = low.0;
+    let hi = high.0;
+    let levels = h.levels;
+    let n = h.n;
+    let span = span_of(levels);
+    if span <= lo {
+        return Learnt::NoKey;
+    }
+    if span <= hi {
+        return Learnt::NoKey;
+    }
+    if hi < lo {
+        return Learnt::Order;
+    }
+    if h.room < splits_of(after(w, Node(3), n, levels, span, lo, hi, true)) {
+        return Learnt::NoRoom;
+    }
+    repaint(w, n, levels, span, lo, hi, true);
+    Learnt::Done
+}
+
 // What the report of an arrival answers.
 pub enum Arrived {
     NoFilter,
     NoKey,
     Done,
+}
+
+// The whole leaf that holds the key leaves D.
+pub fn arrival(w: &mut [u32], key: Key) -> Arrived
+    ensures { λ r. ⌜ Arrive (now (w .entry)) (key .0) r (now (w .exit)) ⌝ }
+{
+    let Loaded::Good(h) = load(w) else {
+        return Arrived::NoFilter;
+    };
+    let x = key.0;
+    let levels = h.levels;
+    let n = h.n;
+    let span = span_of(levels);
+    if span <= x {
+        return Arrived::NoKey;
+    }
+    let l = leaf_of(w, Node(3), levels, span, x);
+    repaint(w, n, levels, span, l.lo, l.hi, false);
+    Arrived::Done
 }
