@@ -15,6 +15,7 @@ pub mod PromiseLaws
 pub mod ReadLaws
 pub mod RepaintLaws
 pub mod LearnLaws
+pub mod FreshLaws
 pub mod Bound
 pub mod ForgetLaws
 pub mod Examples

@@ -37,7 +37,7 @@ module _ {A : Type 0} (w : List ℕ) (refused : A) (number : A → ℕ) (answer 
 pub span-is : (h : Head) (m : Memory) (span : ℕ) → Heads h m → span ≡ 2 ^ h .levels → span ≡ 2 ^ m .levels
 span-is h m span hd e = e ∙ ap (λ (j : ℕ). 2 ^ j) (hd .levels)
 
-or-true : (b : Bool) → (b || true) ≡ true
+pub or-true : (b : Bool) → (b || true) ≡ true
 or-true true = refl
 or-true false = refl
 

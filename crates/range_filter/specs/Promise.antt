@@ -10,6 +10,8 @@ use Rattle.words.specs.Numbers.{Number, numbered, done, low-above-high, space-t
 use Rattle.range_filter.specs.Tree.{splits}
 use Rattle.range_filter.specs.Layout.{Memory, treeIn, layout, wordsNeeded, Filter}
 use Rattle.range_filter.specs.Calls.{freshMemory, allIn, learnt, tooMany, arrived, single, forgotten}
+use Rattle.range_filter.specs.declared.Made.{Made}
+use Rattle.range_filter.specs.declared.Made.the-variants as made
 use Rattle.range_filter.specs.declared.Asked.{Asked}
 use Rattle.range_filter.specs.declared.Asked.the-variants as asked
 use Rattle.range_filter.specs.declared.Learnt.{Learnt}
@@ -121,3 +123,23 @@ arriveAnswer x m = ofKey came.NoKey x m came.Done
 
 abbrev pub Arrive : List ℕ → ℕ → Arrived → List ℕ → Type 0
 Arrive w x r w′ = Kept w came.NoFilter arrivedNumber (arriveAnswer x) (λ m. arrived m x) r w′
+
+-- fresh: 6, 11, 4 with the words needed beside it; no key is remembered
+abbrev pub madeNumber : Made → ℕ
+madeNumber made.Levels = numbered bad-levels
+madeNumber made.Room = numbered room-too-large
+madeNumber (made.Short n) = numbered space-too-short
+madeNumber made.Done = numbered done
+
+abbrev pub madeBeside : Made → ℕ
+madeBeside made.Levels = 0
+madeBeside made.Room = 0
+madeBeside (made.Short n) = n
+madeBeside made.Done = 0
+
+abbrev pub freshAnswer : ℕ → ℕ → ℕ → Made
+freshAnswer levels room len = cond (ltb levels 1 || ltb 20 levels) made.Levels (cond (ltb 4095 room) made.Room (cond (ltb len (wordsNeeded room)) (made.Short (wordsNeeded room)) made.Done))
+
+pub record Fresh (levels room : ℕ) (w : List ℕ) (r : Made) (w′ : List ℕ) : Type 0 where
+  pub answers : r ≡ freshAnswer levels room (length w)
+  pub words : w′ ≡ wordsAfter (madeNumber r) w (freshMemory levels room)

@@ -3,12 +3,13 @@ ghost use mathlib.Core.Path.{_≡_};
 ghost use mathlib.Core.Bool.{Bool, true, false};
 ghost use Prim.Native.Nat.{ℕ, _+_, _-_, _^_, _≤_, _<_};
 ghost use Rattle.range_filter.specs.Tree.{Tree, leaf, treeOf, paint};
+ghost use Rattle.range_filter.specs.Layout.{wordsNeeded};
 ghost use Rattle.range_filter.specs.Place.{At, AllIn, Says, Place, Holds};
 ghost use Rattle.range_filter.specs.Seen.{Saw};
 ghost use Rattle.range_filter.specs.Form.{formOf, splitsOf, joinForm, Laid, Halved, Sub, Spot, kindOf, Fill, Wrote, Parted};
 ghost use Rattle.range_filter.specs.Found.{orElse, moved, pairHere, firstFrom, Below};
 ghost use Rattle.range_filter.specs.Loaded.{IsLoaded};
-ghost use Rattle.range_filter.specs.Promise.{Ask, Learn, Arrive, Depart, Read};
+ghost use Rattle.range_filter.specs.Promise.{Fresh, Ask, Learn, Arrive, Depart, Read};
 ghost use Rattle.range_filter.specs.Repaint.{Ready, Painted};
 ghost use lib.ListN.{length, take, drop};
 ghost use lib.Seq.{sets};
@@ -619,4 +620,45 @@ pub fn arrival(w: &mut [u32], key: Key) -> Arrived
     let l = leaf_of(w, Node(3), levels, span, x);
     repaint(w, n, levels, span, l.lo, l.hi, false);
     Arrived::Done
+}
+
+// What making a filter answers.
+pub enum Made {
+    Levels,
+    Room,
+    Short(u32),
+    Done,
+}
+
+// The words needed for a room.
+fn needed(room: u32) -> u32
+    requires { ⌜ room ≤ 4095 ⌝ }
+    ensures { λ r. ⌜ r ≡ wordsNeeded room ⌝ }
+    ensures { λ r. ⌜ 4 ≤ r ⌝ }
+{
+    2 * room + 4
+}
+
+// A filter that remembers no key.
+pub fn fresh(levels: u32, room: u32, w: &mut [u32]) -> Made
+    ensures { λ r. ⌜ Fresh levels room (now (w .entry)) r (now (w .exit)) ⌝ }
+{
+    if levels < 1 {
+        return Made::Levels;
+    }
+    if 20 < levels {
+        return Made::Levels;
+    }
+    if 4095 < room {
+        return Made::Room;
+    }
+    let n = needed(room);
+    if w.len() < n as usize {
+        return Made::Short(n);
+    }
+    w[0] = levels;
+    w[1] = room;
+    w[2] = 0;
+    w[3] = 0;
+    Made::Done
 }
