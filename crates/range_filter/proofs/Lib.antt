@@ -16,6 +16,7 @@ pub mod ReadLaws
 pub mod RepaintLaws
 pub mod LearnLaws
 pub mod FreshLaws
-pub mod Bound
 pub mod ForgetLaws
+pub mod ChoiceLaws
+pub mod Bound
 pub mod Examples
