@@ -20,7 +20,7 @@ use Rattle.range_filter.proofs.LeafLaws.{down-ind, join-cases}
 use Rattle.range_filter.proofs.ForgetLaws.{or-below, moved-below, wider, here-below}
 
 -- the code's answer as a choice, its keys counted from s
-pub choice : ℕ → Found → Choice
+unfoldable pub choice : ℕ → Found → Choice
 choice s Nothing = none
 choice s (Pair a b) = split (s + a) (s + b)
 
@@ -42,6 +42,7 @@ tree-deep = down-ind (λ k. (D : ℕ → Bool) → Deep (treeOf k D) k) base ste
   where
     base : (D : ℕ → Bool) → Deep (treeOf 0 D) 0
     base D = tt
+
     step : (k : ℕ) → (k ≡ 0 → ⊥) → ((D : ℕ → Bool) → Deep (treeOf (k - 1) D) (k - 1)) → (D : ℕ → Bool) → Deep (treeOf k D) k
     step k ne ih D = subst (λ (t : Tree). Deep t k) (sym (treeOf-down k ne D)) (deep-join (treeOf (k - 1) D) (treeOf (k - 1) (shift (2 ^ (k - 1)) D)) k (omega arith) (ih D) (ih (shift (2 ^ (k - 1)) D)))
 

@@ -7,6 +7,7 @@ use native.Mathlib.Omega.{arith}
 use lib.Dec.{ltb}
 use lib.ListN.{length, getD, set}
 use lib.Seq.{sets, set-getD, getD-set-other}
+use lib.Pow.{pow-mono}
 use borrow.Author.Tests.{lt-ltb, le-ltb}
 use Rattle.range_filter.specs.Tree.{Tree, treeOf, splits, paint}
 use Rattle.range_filter.specs.Layout.{size, encode, Memory, treeIn, layout, Filter}
@@ -35,6 +36,9 @@ module _ (w : List ℕ) (h : Head) (m : Memory) (f : Filter w m) (hd : Heads h m
   pub levels-few : h .levels ≤ 20
   levels-few = omega (arith, f .few-levels, hd .levels)
 
+  pub span-small : (span : ℕ) → span ≡ 2 ^ h .levels → span < 2000000000
+  span-small span e = omega (arith, pow-mono levels-few)
+
   pub same-tree : (D : ℕ → Bool) → treeOf (h .levels) D ≡ treeOf (m .levels) D
   same-tree D = ap (λ (j : ℕ). treeOf j D) (hd .levels)
 
@@ -51,9 +55,9 @@ module _ (w : List ℕ) (h : Head) (m : Memory) (f : Filter w m) (hd : Heads h m
   -- the tree after a painting, painted in the words
   pub laid-out : (w′ : List ℕ) (lo hi : ℕ) (b : Bool) → Painted w w′ (h .levels) lo hi b → w′ ≡ sets w 0 (layout (withSet m (paint b lo hi (m .set))))
   laid-out w′ lo hi b p =
-    p (m .set) (tree-here w h m f hd)
-    ∙ ap (λ (t : Tree). sets w 3 (encode t)) (same-tree (paint b lo hi (m .set)))
-    ∙ sym (same-head w m f (encode (treeOf (m .levels) (paint b lo hi (m .set)))))
+      p (m .set) (tree-here w h m f hd)
+      ∙ ap (λ (t : Tree). sets w 3 (encode t)) (same-tree (paint b lo hi (m .set)))
+      ∙ sym (same-head w m f (encode (treeOf (m .levels) (paint b lo hi (m .set)))))
 
   -- what the code counts is the splits after the learning
   pub counted : (lo hi n : ℕ) (g : Form) → ((D : ℕ → Bool) → At w 3 (treeOf (h .levels) D) → g ≡ formOf (treeOf (h .levels) (paint true lo hi D))) → n ≡ splitsOf g → n ≡ splits (treeOf (h .levels) (paint true lo hi (m .set)))
@@ -76,5 +80,5 @@ module _ (w : List ℕ) (h : Head) (m : Memory) (f : Filter w m) (hd : Heads h m
 
     pub arrived-out : (w′ : List ℕ) → Painted w w′ (h .levels) lo hi false → w′ ≡ sets w 0 (layout (arrived m x))
     arrived-out w′ p =
-      let q′ : Holds (treeIn m) (m .levels) x lo hi = subst (λ (j : ℕ). Holds (treeOf j (m .set)) j x lo hi) (hd .levels) q in
-      laid-out w′ lo hi false p ∙ ap₂ (λ (a c : ℕ). sets w 0 (layout (withSet m (paint false a c (m .set))))) (q′ .low) (q′ .high)
+        let q′ : Holds (treeIn m) (m .levels) x lo hi = subst (λ (j : ℕ). Holds (treeOf j (m .set)) j x lo hi) (hd .levels) q in
+        laid-out w′ lo hi false p ∙ ap₂ (λ (a c : ℕ). sets w 0 (layout (withSet m (paint false a c (m .set))))) (q′ .low) (q′ .high)

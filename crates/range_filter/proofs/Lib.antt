@@ -18,5 +18,6 @@ pub mod LearnLaws
 pub mod FreshLaws
 pub mod ForgetLaws
 pub mod ChoiceLaws
+pub mod ForgotLaws
 pub mod Bound
 pub mod Examples

@@ -40,8 +40,8 @@ module _ (w : List ℕ) where
     -- whatever the words mean, its tree takes n words
     pub same-words : (m : Memory) → Filter w m → n ≡ size (treeIn m)
     same-words m f =
-      let e = ap size (at-unique w 3 (treeOf (getD w 0 0) (s .0)) (treeOf (getD w 0 0) (m .set)) (s .1) (tree-at-word w m f)) in
-      s .2 ∙ e ∙ ap (λ (j : ℕ). size (treeOf j (m .set))) (levels-word w m f)
+        let e = ap size (at-unique w 3 (treeOf (getD w 0 0) (s .0)) (treeOf (getD w 0 0) (m .set)) (s .1) (tree-at-word w m f)) in
+        s .2 ∙ e ∙ ap (λ (j : ℕ). size (treeOf j (m .set))) (levels-word w m f)
 
     pub bad-many : getD w 1 0 * 2 + 1 < n → (m : Memory) → Filter w m → ⊥
     bad-many h m f = omega (arith, same-words m f, size-splits (treeIn m), room-word w m f, f .within)
@@ -51,14 +51,14 @@ module _ (w : List ℕ) where
 
     pub good-words : 1 ≤ getD w 0 0 → getD w 0 0 ≤ 20 → getD w 1 0 ≤ 4095 → getD w 1 0 * 2 + 1 + 3 ≤ length w → (span : ℕ) → span ≡ 2 ^ getD w 0 0 → getD w 2 0 < span → n ≤ getD w 1 0 * 2 + 1 → Filter w meaning
     good-words a b c d span e f g =
-      let x = begins w meaning (omega arith) refl refl refl (s .1) in
-      record {
-        long = omega arith;
-        rest = x .0;
-        words = x .1;
-        some-levels = a;
-        few-levels = b;
-        small-room = c;
-        within = omega (arith, s .2, size-splits (treeOf (getD w 0 0) (s .0)));
-        hand-key = omega arith;
-      }
+        let x = begins w meaning (omega arith) refl refl refl (s .1) in
+        record {
+          long = omega arith;
+          rest = x .0;
+          words = x .1;
+          some-levels = a;
+          few-levels = b;
+          small-room = c;
+          within = omega (arith, s .2, size-splits (treeOf (getD w 0 0) (s .0)));
+          hand-key = omega arith;
+        }

@@ -79,6 +79,7 @@ in-run D x (suc n) e y a b = go (in-run D (suc x) n (p .1) y) (eqb y x) refl
   where
     p : (D x ≡ true) × (run D (suc x) n ≡ true)
     p = and-parts (D x) (run D (suc x) n) e
+
     go : (suc x ≤ y → y < suc x + n → D y ≡ true) → (t : Bool) → eqb y x ≡ t → D y ≡ true
     go ih true q = ap D (eqb-true y x q) ∙ p .0
     go ih false q = let ne = eqb-false y x q in ih (omega arith) (omega arith)

@@ -21,8 +21,8 @@ module _ (h : Head) (m : Memory) (hd : Heads h m) where
 
   pub read-is : means (h .levels) (h .room) (h .hand .0) (h .n / 2) ≡ readAnswer m
   read-is =
-    ap₂ (λ (a b : ℕ). means a b (h .hand .0) (h .n / 2)) (hd .levels) (hd .room)
-    ∙ ap₂ (λ (c d : ℕ). means (m .levels) (m .room) c d) (hd .hand) half-words
+      ap₂ (λ (a b : ℕ). means a b (h .hand .0) (h .n / 2)) (hd .levels) (hd .room)
+      ∙ ap₂ (λ (c d : ℕ). means (m .levels) (m .room) c d) (hd .hand) half-words
 
 -- the tree takes few words
 pub few-words : (w : List ℕ) (h : Head) (m : Memory) → Filter w m → Heads h m → h .n ≤ 8191

@@ -33,9 +33,9 @@ module _ (w : List ℕ) (n k span lo hi : ℕ) (b : Bool) (r : Ready w n k span 
   -- the copied words lay the same tree out at 0
   pub copied : (z o : List ℕ) → length z ≡ 8191 → o ≡ sets z 0 (take n (drop 3 w)) → (D : ℕ → Bool) → At w 3 (treeOf k D) → At o 0 (treeOf k D)
   copied z o l e D h =
-    let words : n ≡ size (treeOf k D) = r .fill .spot .words ∙ ap size (at-unique w 3 (treeOf k S) (treeOf k D) (r .fill .spot .laid) h) in
-    let y : take n (drop 3 w) ≡ encode (treeOf k D) = ap (λ (i : ℕ). take i (drop 3 w)) words ∙ at-encode w 3 (treeOf k D) h in
-    at-cast (treeOf k D) (sym (e ∙ ap (sets z 0) y)) refl (written-at z 0 (treeOf k D) (omega (arith, r .few)))
+      let words : n ≡ size (treeOf k D) = r .fill .spot .words ∙ ap size (at-unique w 3 (treeOf k S) (treeOf k D) (r .fill .spot .laid) h) in
+      let y : take n (drop 3 w) ≡ encode (treeOf k D) = ap (λ (i : ℕ). take i (drop 3 w)) words ∙ at-encode w 3 (treeOf k D) h in
+      at-cast (treeOf k D) (sym (e ∙ ap (sets z 0) y)) refl (written-at z 0 (treeOf k D) (omega (arith, r .few)))
 
   pub put-fill : (o : List ℕ) → At o 0 (treeOf k S) → Fill o 0 n k span lo hi b (length w) 3
   put-fill o h = record {

@@ -18,6 +18,8 @@ use Rattle.range_filter.specs.declared.Learnt.{Learnt}
 use Rattle.range_filter.specs.declared.Learnt.the-variants as taught
 use Rattle.range_filter.specs.declared.Arrived.{Arrived}
 use Rattle.range_filter.specs.declared.Arrived.the-variants as came
+use Rattle.range_filter.specs.declared.Forgot.{Forgot}
+use Rattle.range_filter.specs.declared.Forgot.the-variants as forgot
 use Rattle.range_filter.specs.declared.Departed.{Departed}
 use Rattle.range_filter.specs.declared.Departed.the-variants as departed
 use Rattle.range_filter.specs.declared.Reading.{Reading}
@@ -143,3 +145,15 @@ freshAnswer levels room len = cond (ltb levels 1 || ltb 20 levels) made.Levels (
 pub record Fresh (levels room : ℕ) (w : List ℕ) (r : Made) (w′ : List ℕ) : Type 0 where
   pub answers : r ≡ freshAnswer levels room (length w)
   pub words : w′ ≡ wordsAfter (madeNumber r) w (freshMemory levels room)
+
+-- forget: 8, 10; the range of the chosen split leaves D, and the hand moves behind it
+abbrev pub forgotNumber : Forgot → ℕ
+forgotNumber forgot.NoFilter = numbered no-filter
+forgotNumber forgot.Nothing = numbered nothing-to-forget
+forgotNumber forgot.Done = numbered done
+
+abbrev pub forgetAnswer : Memory → Forgot
+forgetAnswer m = cond (single (treeIn m)) forgot.Nothing forgot.Done
+
+abbrev pub Forget : List ℕ → Forgot → List ℕ → Type 0
+Forget w r w′ = Kept w forgot.NoFilter forgotNumber forgetAnswer forgotten r w′

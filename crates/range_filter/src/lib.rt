@@ -4,12 +4,13 @@ ghost use mathlib.Core.Bool.{Bool, true, false};
 ghost use Prim.Native.Nat.{ℕ, _+_, _-_, _^_, _≤_, _<_};
 ghost use Rattle.range_filter.specs.Tree.{Tree, leaf, treeOf, paint};
 ghost use Rattle.range_filter.specs.Layout.{wordsNeeded};
+ghost use Rattle.range_filter.specs.Calls.{keyAfter};
 ghost use Rattle.range_filter.specs.Place.{At, AllIn, Says, Place, Holds};
 ghost use Rattle.range_filter.specs.Seen.{Saw};
 ghost use Rattle.range_filter.specs.Form.{formOf, splitsOf, joinForm, Laid, Halved, Sub, Spot, kindOf, Fill, Wrote, Parted};
-ghost use Rattle.range_filter.specs.Found.{orElse, moved, pairHere, firstFrom, Below};
+ghost use Rattle.range_filter.specs.Found.{orElse, moved, pairHere, firstFrom, Below, walk};
 ghost use Rattle.range_filter.specs.Loaded.{IsLoaded};
-ghost use Rattle.range_filter.specs.Promise.{Fresh, Ask, Learn, Arrive, Depart, Read};
+ghost use Rattle.range_filter.specs.Promise.{Fresh, Ask, Learn, Arrive, Forget, Depart, Read};
 ghost use Rattle.range_filter.specs.Repaint.{Ready, Painted};
 ghost use lib.ListN.{length, take, drop};
 ghost use lib.Seq.{sets};
@@ -275,7 +276,18 @@ fn put(
     let half = span / 2;
     let c = halves(w, at, n, k);
     let g = parted(half, lo, hi);
-    let next = put(w, c.lp, c.ln, k - 1, half, g.llo, g.lhi, b, out, Node(q + 1));
+    let next = put(
+        w,
+        c.lp,
+        c.ln,
+        k - 1,
+        half,
+        g.llo,
+        g.lhi,
+        b,
+        out,
+        Node(q + 1),
+    );
     let e = next.0;
     out[q] = (e - q + 1) as u32;
     put(w, c.rp, c.rn, k - 1, half, g.rlo, g.rhi, b, out, next)
@@ -661,4 +673,55 @@ pub fn fresh(levels: u32, room: u32, w: &mut [u32]) -> Made
     w[2] = 0;
     w[3] = 0;
     Made::Done
+}
+
+// The split with two leaves that forget takes.
+fn choose(w: &[u32], k: u32, span: u32, hand: u32) -> Found
+    requires { ⌜ (Place (now w) 3 k span 0 0) × (span < 2000000000) ⌝ }
+    ensures { λ r. ⌜ ((D : ℕ → Bool) → At (now (w .entry)) 3 (treeOf k D) → r ≡ walk (treeOf k D) k hand) ⌝ }
+    ensures { λ r. ⌜ Below r span ⌝ }
+{
+    or_else(
+        first_pair(w, Node(3), k, span, hand),
+        first_pair(w, Node(3), k, span, 0),
+    )
+}
+
+// The key after x, or 0 past the end.
+fn key_after(x: u32, span: u32) -> u32
+    requires { ⌜ (x < span) × (span < 2000000000) ⌝ }
+    ensures { λ r. ⌜ ((k : ℕ) → span ≡ 2 ^ k → r ≡ keyAfter k x) ⌝ }
+{
+    if x + 1 == span {
+        return 0;
+    }
+    x + 1
+}
+
+// What forgetting answers.
+pub enum Forgot {
+    NoFilter,
+    Nothing,
+    Done,
+}
+
+// The range of the chosen split leaves D, and the hand moves behind it.
+pub fn forget(w: &mut [u32]) -> Forgot
+    ensures { λ r. ⌜ Forget (now (w .entry)) r (now (w .exit)) ⌝ }
+{
+    let Loaded::Good(h) = load(w) else {
+        return Forgot::NoFilter;
+    };
+    let levels = h.levels;
+    let n = h.n;
+    let key = h.hand;
+    let hand = key.0;
+    let span = span_of(levels);
+    let Found::Pair(lo, hi) = choose(w, levels, span, hand) else {
+        return Forgot::Nothing;
+    };
+    let next = key_after(hi, span);
+    repaint(w, n, levels, span, lo, hi, false);
+    w[2] = next;
+    Forgot::Done
 }

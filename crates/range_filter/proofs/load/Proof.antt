@@ -17,7 +17,7 @@ use Rattle.range_filter.proofs.valid.Reads as valid-reads
 
 -- src/lib.rt:276:9
 returns : tie.Need-returns
-returns c = 
+returns c =
     let w = now (c .before .before .args .w) in
     laws.bad-short w (c .if1 .taken)
 
@@ -35,19 +35,19 @@ shared-slice-read-hand c = search needs
 
 -- src/lib.rt:282:9
 returns-2 : tie.Need-returns-2
-returns-2 c = 
+returns-2 c =
     let w = now (c .before .before .before .before .before .before .args .w) in
     laws.bad-none w (c .if2 .taken)
 
 -- src/lib.rt:285:9
 returns-3 : tie.Need-returns-3
-returns-3 c = 
+returns-3 c =
     let w = now (c .before .before .before .before .before .before .before .args .w) in
     laws.bad-deep w (c .if3 .taken)
 
 -- src/lib.rt:288:9
 returns-4 : tie.Need-returns-4
-returns-4 c = 
+returns-4 c =
     let w = now (c .before .before .before .before .before .before .before .before .args .w) in
     laws.bad-room w (c .if4 .taken)
 
@@ -69,7 +69,7 @@ add-if5 c = search needs
 
 -- src/lib.rt:292:9
 returns-5 : tie.Need-returns-5
-returns-5 c = 
+returns-5 c =
     let w = now (c .before .before .before .before .before .before .before .before .before .args .w) in
     laws.bad-long w (c .if5 .taken)
 
@@ -79,7 +79,7 @@ span-of-requires c κs = search needs
 
 -- src/lib.rt:295:9
 returns-6 : tie.Need-returns-6
-returns-6 c = 
+returns-6 c =
     let w = now (c .before .before .before .before .before .before .before .before .before .before .before .args .w) in
     laws.bad-hand w (c .before .span-of .result) (c .before .span-of .ensures) (c .if6 .taken)
 
@@ -97,19 +97,19 @@ enum-told c = search needs
 
 -- src/lib.rt:298:9
 returns-7 : tie.Need-returns-7
-returns-7 c = 
+returns-7 c =
     let w = now (c .before .before .before .before .before .before .before .before .before .before .before .before .before .before .args .w) in
     laws.bad-tree w (subst (Saw w 3 (getD w 0 0)) (c .enum-told .given .1) (c .before .before .valid .ensures))
 
 -- src/lib.rt:301:9
 returns-8 : tie.Need-returns-8
-returns-8 c = 
+returns-8 c =
     let w = now (c .before .before .before .before .before .before .before .before .before .before .before .before .before .before .before .before .args .w) in
     laws.bad-many w (c .before .before .n .given .0 .0) (subst (Saw w 3 (getD w 0 0)) (c .before .before .n .given .1) (c .before .before .before .before .valid .ensures)) (c .if7 .taken)
 
 -- src/lib.rt:272:1
 returns-9 : tie.Need-returns-9
-returns-9 c = 
+returns-9 c =
     let w = now (c .before .before .before .before .before .before .before .before .before .before .before .before .before .before .before .before .args .w) in
     let s = (subst (Saw w 3 (getD w 0 0)) (c .before .before .n .given .1) (c .before .before .before .before .valid .ensures)) in
     let n = c .before .before .n .given .0 .0 in
