@@ -21,3 +21,5 @@ pub mod ChoiceLaws
 pub mod ForgotLaws
 pub mod Bound
 pub mod Examples
+pub mod Decide
+pub mod Only
