@@ -44,29 +44,29 @@ pub fresh-refused : {levels room : ℕ} {w u : List ℕ} {r : Made} → Fresh le
 fresh-refused {levels} {room} {w} {u} {r} p ne = p .words ∙ unchanged (madeNumber r) w _ ne
 
 -- call by call
-pub ask-only : {w : List ℕ} {lo hi : ℕ} {r s : Asked} → Ask w lo hi r → Ask w lo hi s → r ≡ s
-ask-only p q = told-only p q
+pub ask-only : (lo hi : ℕ) {w : List ℕ} {r s : Asked} → Ask w lo hi r → Ask w lo hi s → r ≡ s
+ask-only lo hi p q = told-only p q
 
-pub depart-only : {w : List ℕ} {x : ℕ} {r s : Departed} → Depart w x r → Depart w x s → r ≡ s
-depart-only p q = told-only p q
+pub depart-only : (x : ℕ) {w : List ℕ} {r s : Departed} → Depart w x r → Depart w x s → r ≡ s
+depart-only x p q = told-only p q
 
 pub read-only : {w : List ℕ} {r s : Reading} → Read w r → Read w s → r ≡ s
 read-only p q = told-only p q
 
-pub learn-only : {w u v : List ℕ} {lo hi : ℕ} {r s : Learnt} → Learn w lo hi r u → Learn w lo hi s v → (r ≡ s) × (u ≡ v)
-learn-only p q = kept-only p q
+pub learn-only : (lo hi : ℕ) {w u v : List ℕ} {r s : Learnt} → Learn w lo hi r u → Learn w lo hi s v → (r ≡ s) × (u ≡ v)
+learn-only lo hi p q = kept-only p q
 
-pub arrive-only : {w u v : List ℕ} {x : ℕ} {r s : Arrived} → Arrive w x r u → Arrive w x s v → (r ≡ s) × (u ≡ v)
-arrive-only p q = kept-only p q
+pub arrive-only : (x : ℕ) {w u v : List ℕ} {r s : Arrived} → Arrive w x r u → Arrive w x s v → (r ≡ s) × (u ≡ v)
+arrive-only x p q = kept-only p q
 
 pub forget-only : {w u v : List ℕ} {r s : Forgot} → Forget w r u → Forget w s v → (r ≡ s) × (u ≡ v)
 forget-only p q = kept-only p q
 
-pub learn-refused : {w u : List ℕ} {lo hi : ℕ} {r : Learnt} → Learn w lo hi r u → (learntNumber r ≡ 0 → ⊥) → u ≡ w
-learn-refused p ne = kept-refused p ne
+pub learn-refused : (lo hi : ℕ) {w u : List ℕ} {r : Learnt} → Learn w lo hi r u → (learntNumber r ≡ 0 → ⊥) → u ≡ w
+learn-refused lo hi p ne = kept-refused p ne
 
-pub arrive-refused : {w u : List ℕ} {x : ℕ} {r : Arrived} → Arrive w x r u → (arrivedNumber r ≡ 0 → ⊥) → u ≡ w
-arrive-refused p ne = kept-refused p ne
+pub arrive-refused : (x : ℕ) {w u : List ℕ} {r : Arrived} → Arrive w x r u → (arrivedNumber r ≡ 0 → ⊥) → u ≡ w
+arrive-refused x p ne = kept-refused p ne
 
 pub forget-refused : {w u : List ℕ} {r : Forgot} → Forget w r u → (forgotNumber r ≡ 0 → ⊥) → u ≡ w
 forget-refused p ne = kept-refused p ne
