@@ -23,3 +23,4 @@ pub mod Bound
 pub mod Examples
 pub mod Decide
 pub mod Only
+pub mod Keeps

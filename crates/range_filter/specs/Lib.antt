@@ -3,6 +3,7 @@ pub mod Tree
 pub mod Layout
 pub mod Calls
 pub mod Promise
+pub mod History
 pub mod Examples
 pub mod Place
 pub mod Seen
