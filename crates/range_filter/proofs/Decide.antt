@@ -52,8 +52,10 @@ ruled w = down-ind (λ k. (p : ℕ) → Ruled w p k) base step
         go (yes le) d = (Bad, seen.bad-end w p k le)
         go (no n) (yes lt) = (Good 1, seen.good-leaf w p k (omega arith) lt)
         go (no n) (no f) = rest (omega arith) (omega arith)
+
     base : (p : ℕ) → Ruled w p 0
     base p = small 0 p (λ i two. (Bad, seen.bad-flat w p 0 refl two))
+
     step : (k : ℕ) → (k ≡ 0 → ⊥) → ((p : ℕ) → Ruled w p (k - 1)) → (p : ℕ) → Ruled w p k
     step k ne ih p = small k p (λ i two. rule-left w p k i ne two ih (ih (p + 1) .0) (ih (p + 1) .1))
 
@@ -66,8 +68,10 @@ decide w = go (decLt (length w) 3) (decLt k 1) (decLt 20 k) (decLt 4095 room) (d
   where
     k : ℕ
     k = getD w 0 0
+
     room : ℕ
     room = getD w 1 0
+
     tree : 1 ≤ k → k ≤ 20 → room ≤ 4095 → room * 2 + 1 + 3 ≤ length w → getD w 2 0 < 2 ^ k → (s : Seen) → Saw w 3 k s → Known w
     tree a b c d e Bad s = inr (load.bad-tree w s)
     tree a b c d e (Good n) s = many (decLt (room * 2 + 1) n)
@@ -75,6 +79,7 @@ decide w = go (decLt (length w) 3) (decLt k 1) (decLt 20 k) (decLt 4095 room) (d
         many : Dec (room * 2 + 1 < n) → Known w
         many (yes lt) = inr (load.bad-many w n s lt)
         many (no f) = inl (load.meaning w n s, load.good-words w n s a b c d (2 ^ k) refl e (omega arith))
+
     go : Dec (length w < 3) → Dec (k < 1) → Dec (20 < k) → Dec (4095 < room) → Dec (length w < room * 2 + 1 + 3) → Dec (2 ^ k ≤ getD w 2 0) → Known w
     go (yes h) b c d e f = inr (load.bad-short w h)
     go (no a) (yes h) c d e f = inr (load.bad-none w h)

@@ -24,3 +24,5 @@ pub mod Examples
 pub mod Decide
 pub mod Only
 pub mod Keeps
+pub mod Never
+pub mod Sound

@@ -24,14 +24,14 @@ module _ {A : Type 0} {w : List ℕ} {refused : A} {answer : Memory → A} where
   -- a call that only reads gives one answer
   pub told-only : {r s : A} → Told w refused answer r → Told w refused answer s → r ≡ s
   told-only {r} {s} p q =
-    ⊎-elim (λ x. p .meant (x .0) (x .1) ∙ sym (q .meant (x .0) (x .1))) (λ bad. p .not-meant bad ∙ sym (q .not-meant bad)) (decide w)
+      ⊎-elim (λ x. p .meant (x .0) (x .1) ∙ sym (q .meant (x .0) (x .1))) (λ bad. p .not-meant bad ∙ sym (q .not-meant bad)) (decide w)
 
   module _ {number : A → ℕ} {next : Memory → Memory} where
     -- a call that may change the words gives one answer and leaves one list of words
     pub kept-only : {r s : A} {u v : List ℕ} → Kept w refused number answer next r u → Kept w refused number answer next s v → (r ≡ s) × (u ≡ v)
     kept-only {r} {s} p q =
-      let e = told-only (p .told) (q .told) in
-      (e, ⊎-elim (λ x. p .meant-words (x .0) (x .1) ∙ ap (λ (a : A). wordsAfter (number a) w (next (x .0))) e ∙ sym (q .meant-words (x .0) (x .1))) (λ bad. p .not-meant-words bad ∙ sym (q .not-meant-words bad)) (decide w))
+        let e = told-only (p .told) (q .told) in
+        (e, ⊎-elim (λ x. p .meant-words (x .0) (x .1) ∙ ap (λ (a : A). wordsAfter (number a) w (next (x .0))) e ∙ sym (q .meant-words (x .0) (x .1))) (λ bad. p .not-meant-words bad ∙ sym (q .not-meant-words bad)) (decide w))
 
     -- an answer other than 0 changes nothing
     pub kept-refused : {r : A} {u : List ℕ} → Kept w refused number answer next r u → (number r ≡ 0 → ⊥) → u ≡ w
