@@ -4,6 +4,7 @@ pub mod Layout
 pub mod Calls
 pub mod Promise
 pub mod History
+pub mod Beside
 pub mod Examples
 pub mod Place
 pub mod Seen
