@@ -58,45 +58,54 @@ pub record Taken (k : ℕ) (D : ℕ → Bool) (lo hi : ℕ) : Type 0 where
 abbrev Takes : ℕ → Type 0
 Takes k = (D : ℕ → Bool) (x lo hi : ℕ) → Holds (treeOf k D) k x lo hi → Taken k D lo hi
 
--- where the tree is one leaf
-flat-taken : (k : ℕ) (D : ℕ → Bool) (x lo hi : ℕ) (b : Bool) → treeOf k D ≡ leaf b → Holds (treeOf k D) k x lo hi → Taken k D lo hi
-flat-taken k D x lo hi b e h =
-    let g : Holds (leaf b) k x lo hi = subst (λ (t : Tree). Holds t k x lo hi) e h in
-    let p = pow-pos k in
-    let z : lo ≡ 0 = g .low in
-    let y : hi ≡ 2 ^ k - 1 = g .high in
-    record { inside = omega arith; fewer = omega (arith, ap splits (paint-whole k false lo hi D z (omega arith))) }
-
-module _ (k : ℕ) (ne : k ≡ 0 → ⊥) (ih : Takes (k - 1)) (D : ℕ → Bool) (x lo hi : ℕ) where
+-- a range of one half: what holds there holds of the whole
+module _ (k : ℕ) (ne : k ≡ 0 → ⊥) (D : ℕ → Bool) (lo hi : ℕ) where
   abbrev m : ℕ
   m = 2 ^ (k - 1)
 
   abbrev R : ℕ → Bool
   R = shift (2 ^ (k - 1)) D
 
-  split-taken : treeOf k D ≡ node (treeOf (k - 1) D) (treeOf (k - 1) R) → Holds (treeOf k D) k x lo hi → Taken k D lo hi
-  split-taken e h = go (decLt x m)
-    where
-      g : Holds (node (treeOf (k - 1) D) (treeOf (k - 1) R)) k x lo hi
-      g = subst (λ (t : Tree). Holds t k x lo hi) e h
+  module _ (e : treeOf k D ≡ node (treeOf (k - 1) D) (treeOf (k - 1) R)) where
+    pub left-taken : Taken (k - 1) D lo hi → Taken k D lo hi
+    left-taken q =
+        let i = q .inside in
+        let c : Parted m lo hi lo hi 1 0 = omega arith in
+        let s = ap splits (paint-parts k false lo hi D ne m lo hi 1 0 refl c) in
+        let u = ap splits (paint-none (k - 1) false 1 0 R (omega arith)) in
+        record { inside = omega (arith, twice k ne); fewer = omega (arith, q .fewer, join-splits (treeOf (k - 1) (paint false lo hi D)) (treeOf (k - 1) (paint false 1 0 R)), ap splits e) }
 
-      go : Dec (x < m) → Taken k D lo hi
-      go (yes lt) =
-          let q = ih D x lo hi (holds-left (treeOf (k - 1) D) (treeOf (k - 1) R) k x lo hi g lt) in
-          let i = q .inside in
-          let c : Parted m lo hi lo hi 1 0 = omega arith in
-          let s = ap splits (paint-parts k false lo hi D ne m lo hi 1 0 refl c) in
-          let u = ap splits (paint-none (k - 1) false 1 0 R (omega arith)) in
-          record { inside = omega (arith, twice k ne); fewer = omega (arith, q .fewer, join-splits (treeOf (k - 1) (paint false lo hi D)) (treeOf (k - 1) (paint false 1 0 R)), ap splits e) }
-      go (no n) =
-          let ge : m ≤ x = omega arith in
-          let f = holds-right (treeOf (k - 1) D) (treeOf (k - 1) R) k x lo hi g ge in
-          let q = ih R (x - m) (lo - m) (hi - m) (f .0) in
-          let i = q .inside in
-          let c : Parted m lo hi 1 0 (lo - m) (hi - m) = omega (arith, pow-pos (k - 1)) in
-          let s = ap splits (paint-parts k false lo hi D ne m 1 0 (lo - m) (hi - m) refl c) in
-          let u = ap splits (paint-none (k - 1) false 1 0 D (omega arith)) in
-          record { inside = omega (arith, twice k ne); fewer = omega (arith, q .fewer, join-splits (treeOf (k - 1) (paint false 1 0 D)) (treeOf (k - 1) (paint false (lo - m) (hi - m) R)), ap splits e) }
+    pub right-taken : m ≤ lo → m ≤ hi → Taken (k - 1) R (lo - m) (hi - m) → Taken k D lo hi
+    right-taken a b q =
+        let i = q .inside in
+        let c : Parted m lo hi 1 0 (lo - m) (hi - m) = omega (arith, pow-pos (k - 1)) in
+        let s = ap splits (paint-parts k false lo hi D ne m 1 0 (lo - m) (hi - m) refl c) in
+        let u = ap splits (paint-none (k - 1) false 1 0 D (omega arith)) in
+        record { inside = omega (arith, twice k ne); fewer = omega (arith, q .fewer, join-splits (treeOf (k - 1) (paint false 1 0 D)) (treeOf (k - 1) (paint false (lo - m) (hi - m) R)), ap splits e) }
+
+-- the whole range
+pub whole-taken : (k : ℕ) (D : ℕ → Bool) (lo hi : ℕ) → lo ≡ 0 → hi ≡ 2 ^ k - 1 → Taken k D lo hi
+whole-taken k D lo hi z y =
+    let p = pow-pos k in
+    record { inside = omega arith; fewer = omega (arith, ap splits (paint-whole k false lo hi D z (omega arith))) }
+
+-- where the tree is one leaf
+flat-taken : (k : ℕ) (D : ℕ → Bool) (x lo hi : ℕ) (b : Bool) → treeOf k D ≡ leaf b → Holds (treeOf k D) k x lo hi → Taken k D lo hi
+flat-taken k D x lo hi b e h =
+    let g : Holds (leaf b) k x lo hi = subst (λ (t : Tree). Holds t k x lo hi) e h in
+    whole-taken k D lo hi (g .low) (g .high)
+
+split-taken : (k : ℕ) (ne : k ≡ 0 → ⊥) → Takes (k - 1) → (D : ℕ → Bool) (x lo hi : ℕ) → treeOf k D ≡ node (treeOf (k - 1) D) (treeOf (k - 1) (shift (2 ^ (k - 1)) D)) → Holds (treeOf k D) k x lo hi → Taken k D lo hi
+split-taken k ne ih D x lo hi e h = go (decLt x (2 ^ (k - 1)))
+  where
+    g : Holds (node (treeOf (k - 1) D) (treeOf (k - 1) (shift (2 ^ (k - 1)) D))) k x lo hi
+    g = subst (λ (t : Tree). Holds t k x lo hi) e h
+
+    go : Dec (x < 2 ^ (k - 1)) → Taken k D lo hi
+    go (yes lt) = left-taken k ne D lo hi e (ih D x lo hi (holds-left (treeOf (k - 1) D) (treeOf (k - 1) (shift (2 ^ (k - 1)) D)) k x lo hi g lt))
+    go (no n) =
+        let f = holds-right (treeOf (k - 1) D) (treeOf (k - 1) (shift (2 ^ (k - 1)) D)) k x lo hi g (omega arith) in
+        right-taken k ne D lo hi e (f .1) (f .2) (ih (shift (2 ^ (k - 1)) D) (x - 2 ^ (k - 1)) (lo - 2 ^ (k - 1)) (hi - 2 ^ (k - 1)) (f .0))
 
 flat-zero : (D : ℕ → Bool) → treeOf 0 D ≡ leaf (D 0)
 unfolding treeOf

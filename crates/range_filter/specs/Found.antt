@@ -33,3 +33,7 @@ firstFrom (node l r) k h = orElse (pairHere l r h (2 ^ k - 1)) (orElse (firstFro
 abbrev pub Below : Found → ℕ → Type 0
 Below Nothing s = Unit {0}
 Below (Pair a b) s = (a < s) × (b < s)
+
+-- from the key h on, else from the beginning
+abbrev pub walk : Tree → ℕ → ℕ → Found
+walk t k h = orElse (firstFrom t k h) (firstFrom t k 0)

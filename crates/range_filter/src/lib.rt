@@ -3,10 +3,15 @@ ghost use mathlib.Core.Path.{_≡_};
 ghost use mathlib.Core.Bool.{Bool, true, false};
 ghost use Prim.Native.Nat.{ℕ, _+_, _-_, _^_, _≤_, _<_};
 ghost use Rattle.range_filter.specs.Tree.{Tree, leaf, treeOf, paint};
+ghost use Rattle.range_filter.specs.Layout.{wordsNeeded};
+ghost use Rattle.range_filter.specs.Calls.{keyAfter};
 ghost use Rattle.range_filter.specs.Place.{At, AllIn, Says, Place, Holds};
 ghost use Rattle.range_filter.specs.Seen.{Saw};
 ghost use Rattle.range_filter.specs.Form.{formOf, splitsOf, joinForm, Laid, Halved, Sub, Spot, kindOf, Fill, Wrote, Parted};
-ghost use Rattle.range_filter.specs.Found.{orElse, moved, pairHere, firstFrom, Below};
+ghost use Rattle.range_filter.specs.Found.{orElse, moved, pairHere, firstFrom, Below, walk};
+ghost use Rattle.range_filter.specs.Loaded.{IsLoaded};
+ghost use Rattle.range_filter.specs.Promise.{Fresh, Ask, Learn, Arrive, Forget, Depart, Read};
+ghost use Rattle.range_filter.specs.Repaint.{Ready, Painted};
 ghost use lib.ListN.{length, take, drop};
 ghost use lib.Seq.{sets};
 
@@ -413,4 +418,310 @@ fn first_pair(w: &[u32], at: Node, k: u32, span: u32, from: u32) -> Found
     let left = first_pair(w, Node(p + 1), k - 1, half, from);
     let right = first_pair(w, Node(q), k - 1, half, less(from, half));
     or_else(here, or_else(left, shifted(right, half)))
+}
+
+// A key of the filter.
+pub struct Key(pub u32);
+
+// A filter's header, and the words of its tree.
+struct Head {
+    levels: u32,
+    room: u32,
+    hand: Key,
+    n: usize,
+}
+
+enum Loaded {
+    Bad,
+    Good(Head),
+}
+
+// The filter's header and its tree's words, or that the words are no filter.
+fn load(w: &[u32]) -> Loaded
+    ensures { λ r. ⌜ IsLoaded (now (w .entry)) r ⌝ }
+{
+    if w.len() < 3 {
+        return Loaded::Bad;
+    }
+    let levels = w[0];
+    let room = w[1];
+    let hand = w[2];
+    if levels < 1 {
+        return Loaded::Bad;
+    }
+    if 20 < levels {
+        return Loaded::Bad;
+    }
+    if 4095 < room {
+        return Loaded::Bad;
+    }
+    let most = room as usize * 2 + 1;
+    if w.len() < most + 3 {
+        return Loaded::Bad;
+    }
+    if span_of(levels) <= hand {
+        return Loaded::Bad;
+    }
+    let Seen::Good(n) = valid(w, Node(3), levels) else {
+        return Loaded::Bad;
+    };
+    if most < n {
+        return Loaded::Bad;
+    }
+    Loaded::Good(Head {
+        levels,
+        room,
+        hand: Key(hand),
+        n,
+    })
+}
+
+// What asking a range answers.
+pub enum Asked {
+    NoFilter,
+    NoKey,
+    Order,
+    Look,
+    Denied,
+}
+
+// Denied exactly when all keys low to high are in D, else look.
+pub fn ask(w: &[u32], low: Key, high: Key) -> Asked
+    ensures { λ r. ⌜ Ask (now (w .entry)) (low .0) (high .0) r ⌝ }
+{
+    let Loaded::Good(h) = load(w) else {
+        return Asked::NoFilter;
+    };
+    let lo = low.0;
+    let hi = high.0;
+    let levels = h.levels;
+    let span = span_of(levels);
+    if span <= lo {
+        return Asked::NoKey;
+    }
+    if span <= hi {
+        return Asked::NoKey;
+    }
+    if hi < lo {
+        return Asked::Order;
+    }
+    if all_in(w, Node(3), levels, span, lo, hi) {
+        return Asked::Denied;
+    }
+    Asked::Look
+}
+
+// What the report of a departure answers.
+pub enum Departed {
+    NoFilter,
+    NoKey,
+    Done,
+}
+
+// A departure changes nothing, since another row may carry the same key.
+pub fn departure(w: &[u32], key: Key) -> Departed
+    ensures { λ r. ⌜ Depart (now (w .entry)) (key .0) r ⌝ }
+{
+    let Loaded::Good(h) = load(w) else {
+        return Departed::NoFilter;
+    };
+    let x = key.0;
+    if span_of(h.levels) <= x {
+        return Departed::NoKey;
+    }
+    Departed::Done
+}
+
+// What accepted words mean, beside the set D.
+pub struct Meaning {
+    pub levels: u32,
+    pub room: u32,
+    pub hand: Key,
+    pub splits: u32,
+}
+
+pub enum Reading {
+    NoFilter,
+    Means(Meaning),
+}
+
+// What the words mean, for a fitter to see.
+pub fn read(w: &[u32]) -> Reading
+    ensures { λ r. ⌜ Read (now (w .entry)) r ⌝ }
+{
+    let Loaded::Good(h) = load(w) else {
+        return Reading::NoFilter;
+    };
+    let hand = h.hand;
+    Reading::Means(Meaning {
+        levels: h.levels,
+        room: h.room,
+        hand,
+        splits: (h.n / 2) as u32,
+    })
+}
+
+// Puts the keys lo to hi of the tree of n words at 3 in (b), or takes them out.
+fn repaint(w: &mut [u32], n: usize, levels: u32, span: u32, lo: u32, hi: u32, b: bool)
+    requires { ⌜ Ready (now w) n levels span lo hi b ⌝ }
+    ensures { λ _. ⌜ Painted (now (w .entry)) (now (w .exit)) levels lo hi b ⌝ }
+{
+    let mut old = [0u32; 8191];
+    copy(w, 3, n, &mut old, 0);
+    put(&old, Node(0), n, levels, span, lo, hi, b, w, Node(3));
+}
+
+// What learning a range answers.
+pub enum Learnt {
+    NoFilter,
+    NoKey,
+    Order,
+    NoRoom,
+    Done,
+}
+
+// D gains the keys low to high.
+pub fn learn(w: &mut [u32], low: Key, high: Key) -> Learnt
+    ensures { λ r. ⌜ Learn (now (w .entry)) (low .0) (high .0) r (now (w .exit)) ⌝ }
+{
+    let Loaded::Good(h) = load(w) else {
+        return Learnt::NoFilter;
+    };
+    let lo = low.0;
+    let hi = high.0;
+    let levels = h.levels;
+    let n = h.n;
+    let span = span_of(levels);
+    if span <= lo {
+        return Learnt::NoKey;
+    }
+    if span <= hi {
+        return Learnt::NoKey;
+    }
+    if hi < lo {
+        return Learnt::Order;
+    }
+    if h.room < splits_of(after(w, Node(3), n, levels, span, lo, hi, true)) {
+        return Learnt::NoRoom;
+    }
+    repaint(w, n, levels, span, lo, hi, true);
+    Learnt::Done
+}
+
+// What the report of an arrival answers.
+pub enum Arrived {
+    NoFilter,
+    NoKey,
+    Done,
+}
+
+// The whole leaf that holds the key leaves D.
+pub fn arrival(w: &mut [u32], key: Key) -> Arrived
+    ensures { λ r. ⌜ Arrive (now (w .entry)) (key .0) r (now (w .exit)) ⌝ }
+{
+    let Loaded::Good(h) = load(w) else {
+        return Arrived::NoFilter;
+    };
+    let x = key.0;
+    let levels = h.levels;
+    let n = h.n;
+    let span = span_of(levels);
+    if span <= x {
+        return Arrived::NoKey;
+    }
+    let l = leaf_of(w, Node(3), levels, span, x);
+    repaint(w, n, levels, span, l.lo, l.hi, false);
+    Arrived::Done
+}
+
+// What making a filter answers.
+pub enum Made {
+    Levels,
+    Room,
+    Short(u32),
+    Done,
+}
+
+// The words needed for a room.
+fn needed(room: u32) -> u32
+    requires { ⌜ room ≤ 4095 ⌝ }
+    ensures { λ r. ⌜ r ≡ wordsNeeded room ⌝ }
+    ensures { λ r. ⌜ 4 ≤ r ⌝ }
+{
+    2 * room + 4
+}
+
+// A filter that remembers no key.
+pub fn fresh(levels: u32, room: u32, w: &mut [u32]) -> Made
+    ensures { λ r. ⌜ Fresh levels room (now (w .entry)) r (now (w .exit)) ⌝ }
+{
+    if levels < 1 {
+        return Made::Levels;
+    }
+    if 20 < levels {
+        return Made::Levels;
+    }
+    if 4095 < room {
+        return Made::Room;
+    }
+    let n = needed(room);
+    if w.len() < n as usize {
+        return Made::Short(n);
+    }
+    w[0] = levels;
+    w[1] = room;
+    w[2] = 0;
+    w[3] = 0;
+    Made::Done
+}
+
+// The split with two leaves that forget takes.
+fn choose(w: &[u32], k: u32, span: u32, hand: u32) -> Found
+    requires { ⌜ (Place (now w) 3 k span 0 0) × (span < 2000000000) ⌝ }
+    ensures { λ r. ⌜ ((D : ℕ → Bool) → At (now (w .entry)) 3 (treeOf k D) → r ≡ walk (treeOf k D) k hand) ⌝ }
+    ensures { λ r. ⌜ Below r span ⌝ }
+{
+    or_else(
+        first_pair(w, Node(3), k, span, hand),
+        first_pair(w, Node(3), k, span, 0),
+    )
+}
+
+// The key after x, or 0 past the end.
+fn key_after(x: u32, span: u32) -> u32
+    requires { ⌜ (x < span) × (span < 2000000000) ⌝ }
+    ensures { λ r. ⌜ ((k : ℕ) → span ≡ 2 ^ k → r ≡ keyAfter k x) ⌝ }
+{
+    if x + 1 == span {
+        return 0;
+    }
+    x + 1
+}
+
+// What forgetting answers.
+pub enum Forgot {
+    NoFilter,
+    Nothing,
+    Done,
+}
+
+// The range of the chosen split leaves D, and the hand moves behind it.
+pub fn forget(w: &mut [u32]) -> Forgot
+    ensures { λ r. ⌜ Forget (now (w .entry)) r (now (w .exit)) ⌝ }
+{
+    let Loaded::Good(h) = load(w) else {
+        return Forgot::NoFilter;
+    };
+    let levels = h.levels;
+    let n = h.n;
+    let key = h.hand;
+    let hand = key.0;
+    let span = span_of(levels);
+    let Found::Pair(lo, hi) = choose(w, levels, span, hand) else {
+        return Forgot::Nothing;
+    };
+    let next = key_after(hi, span);
+    repaint(w, n, levels, span, lo, hi, false);
+    w[2] = next;
+    Forgot::Done
 }
