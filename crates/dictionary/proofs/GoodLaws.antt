@@ -1,7 +1,7 @@
 -- The pass over the words, by the tests that the program makes. Assumes nothing.
 use Prim.Native.Nat.{ℕ, zero, suc, _+_, _-_, _^_, _<_, _≤_}
 use mathlib.Core.Path.{_≡_, refl, sym, _∙_, ap}
-use mathlib.Core.List.{List, [], _∷_}
+use mathlib.Core.List.{List, _∷_}
 use mathlib.Core.Bool.{Bool, true, false, cond, not, _&&_, and-eq-true-iff}
 use native.Mathlib.Omega.{arith}
 use native.Mathlib.Numerals.{add-one}
@@ -9,12 +9,11 @@ use lib.Dec.{leb, ltb, eqb}
 use lib.ListN.{length, getD, take, drop, length-drop, drop-of-length-le}
 use lib.Seq.{slice-cons, length-take-le, drop-cons, drop-drop}
 use borrow.Author.Tests.{le-leb, lt-leb, lt-ltb, le-ltb, eq-eqb, ne-eqb, eqb-true, eqb-false, leb-true}
-use Rattle.dictionary.specs.Dictionary.{largest, count-of, repeated}
+use Rattle.dictionary.specs.Dictionary.{count-of, repeated}
 use Rattle.dictionary.specs.Entries.{uses}
-use Rattle.dictionary.specs.declared.accepting.Past.{Past}
 use Rattle.dictionary.specs.declared.accepting.Past.the-variants.{Start}
 use Rattle.dictionary.specs.declared.accepting.Before.{Before}
-use Rattle.dictionary.specs.Scan.{preceding, opens, goes-on, follows, neighbours, good-plain, good-repeat, good-entry, past-after, after-entry, scan}
+use Rattle.dictionary.specs.Scan.{preceding, opens, goes-on, neighbours, good-plain, good-repeat, good-entry, after-entry, scan}
 
 -- ---- neighbours
 

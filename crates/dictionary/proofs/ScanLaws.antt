@@ -1,26 +1,23 @@
 -- The program's pass over the words is acceptance. Assumes nothing.
-use Prim.Native.Nat.{ℕ, zero, suc, _+_, _-_, _*_, _/_, _%_, _^_, _<_, _≤_}
+use Prim.Native.Nat.{ℕ, zero, suc, _+_, _-_, _/_, _%_, _^_, _<_, _≤_}
 use mathlib.Core.Path.{_≡_, refl, sym, _∙_, ap}
-use mathlib.Core.List.{List, [], _∷_, _++_, map}
+use mathlib.Core.List.{List, [], _∷_, _++_}
 use mathlib.Core.Bool.{Bool, true, false, cond, not, _&&_, _||_}
 use native.Mathlib.Omega.{arith}
-use native.Mathlib.Nat.{div-add-mod', mod-lt}
-use lib.Dec.{leb, ltb, eqb, lit≤, lit<}
-use lib.ListN.{length, getD, take, drop, replicate, length-append, length-replicate}
+use lib.Dec.{leb, eqb, lit≤, lit<}
+use lib.ListN.{length, getD, take, drop, length-append, length-replicate}
 use lib.Seq.{length-take-le, getD-take}
-use borrow.Author.Tests.{eqb-true, eqb-false, ne-eqb, eq-eqb, leb-true, leb-false, le-leb, lt-leb, lt-ltb, le-ltb}
-use Rattle.words.specs.Lists.{joined, every}
-use Rattle.dictionary.specs.Dictionary.{Entry, plain, repeat, kept, fit, accepted, largest, count-of, repeated}
-use Rattle.dictionary.specs.Entries.{uses}
-use Rattle.dictionary.specs.declared.accepting.Past.{Past}
+use borrow.Author.Tests.{eqb-true, eqb-false, ne-eqb, eq-eqb, leb-true, leb-false, le-leb, lt-ltb, le-ltb}
+use Rattle.words.specs.Lists.{every}
+use Rattle.dictionary.specs.Dictionary.{Entry, plain, repeat, fit, accepted, largest}
 use Rattle.dictionary.specs.declared.accepting.Past.the-variants.{Start, Short, FullRun, Other}
 use Rattle.dictionary.specs.declared.accepting.Before.{Before}
-use Rattle.dictionary.specs.Scan.{preceding, opens, goes-on as runs-on, follows, neighbours, good-plain, good-repeat, good-entry, past-after, after-entry, scan}
+use Rattle.dictionary.specs.Scan.{preceding, opens, goes-on as runs-on, follows, neighbours, good-plain, good-repeat, past-after, scan}
 use Rattle.dictionary.proofs.Stream.{lines-of, unpacked, State, empty, single, many, over}
-use Rattle.dictionary.proofs.Accept.{differs, leaves, goes-on, Reading, at, on, bad, read-first, read-word, read, may-repeat, good, state-of, accepts}
+use Rattle.dictionary.proofs.Accept.{differs, leaves, goes-on, Reading, at, on, bad, read-first, read, may-repeat, good, state-of, accepts}
 use Rattle.dictionary.proofs.AcceptLaws.{read-bad}
 use Rattle.dictionary.proofs.Parse.{Parsed, parsed, broken, before, next-repeat, next-entry, parse, sound, is-index}
-use Rattle.dictionary.proofs.ParseLaws.{parse-words, counted, accepts-counted, every-kept}
+use Rattle.dictionary.proofs.ParseLaws.{parse-words, accepts-counted, every-kept}
 use Rattle.dictionary.proofs.IndexLaws.{accepted-one-pass}
 
 two : 2 ≤ largest

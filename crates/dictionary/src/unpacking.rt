@@ -1,10 +1,9 @@
 // The lines that the words of a dictionary and its imprints stand for, entry by entry.
 ghost use mathlib.Core.Path.{_≡_};
-ghost use Prim.Native.Nat.{_+_, _-_, _<_, _≤_, min};
-ghost use mathlib.Core.Bool.{cond};
+ghost use Prim.Native.Nat.{_+_, _<_, _≤_, min};
 ghost use lib.ListN.{length, getD, take, drop, replicate};
 ghost use lib.Seq.{sets};
-ghost use Rattle.dictionary.specs.Dictionary.{count-of, repeated, unpack};
+ghost use Rattle.dictionary.specs.Dictionary.{unpack};
 ghost use Rattle.dictionary.specs.Entries.{uses, lines-in};
 
 // How many imprints are kept for an entry.
