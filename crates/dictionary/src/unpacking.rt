@@ -7,7 +7,7 @@ ghost use Rattle.dictionary.specs.Dictionary.{unpack};
 ghost use Rattle.dictionary.specs.Entries.{uses, lines-in};
 
 // How many imprints are kept for an entry.
-pub fn used(d: u32) -> usize
+pub(crate) fn used(d: u32) -> usize
     ensures { λ r. ⌜ r ≡ uses d ⌝ }
 {
     if crate::is_repeat(d) {
@@ -18,7 +18,7 @@ pub fn used(d: u32) -> usize
 }
 
 // The imprints from a place on.
-pub fn rest_of(imprints: &[u64], from: usize) -> &[u64]
+pub(crate) fn rest_of(imprints: &[u64], from: usize) -> &[u64]
     requires { ⌜ from ≤ length (now imprints) ⌝ }
     ensures { λ r. ⌜ now r ≡ drop from (now (imprints .entry)) ⌝ }
 {
