@@ -5,3 +5,5 @@ pub mod PromiseLaws
 pub mod RunLaws
 pub mod EntryLaws
 pub mod FillLaws
+pub mod AnswerLaws
+pub mod ColumnLaws

@@ -2,6 +2,7 @@
 
 pub mod rows; // rows.rt: the rows of a range, counted entry by entry
 pub mod listed; // listed.rt: the same rows, listed
+pub mod made; // made.rt: build, pack and unpack
 
 // What build answers: the lengths of the three parts; a column that is too long; or the first space that is too short, with the length needed.
 pub enum BuildAnswer {
