@@ -7,3 +7,4 @@ pub mod EntryLaws
 pub mod FillLaws
 pub mod AnswerLaws
 pub mod ColumnLaws
+pub mod MadeLaws
