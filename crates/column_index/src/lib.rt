@@ -2,6 +2,7 @@
 
 pub mod rows; // rows.rt: the rows of a range, counted entry by entry
 pub mod listed; // listed.rt: the same rows, listed
+pub mod made; // made.rt: build, pack and unpack
 
 use rows::Ask;
 use rows::Tally;
