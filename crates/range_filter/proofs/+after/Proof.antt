@@ -47,8 +47,6 @@ after-returns : (t : ℕ) → after-lts.Need-returns (calls t) (after-at t) afte
 after-returns t c =
     let s = c .before .before .before in
     let a = s .args in
-    let w = now (a .w) in
-    let here = s .pre .1 in
     λ D h. c .form-at .ensures (treeOf (a .k) D) h ∙ sym (ap formOf (paint-none (a .k) (a .b) (a .lo) (a .hi) D (c .before .if1 .taken)))
 
 -- src/lib.rt:177:19
@@ -104,9 +102,6 @@ after-sub-after t c =
     let w = now (a .w) in
     let here = s .pre .1 in
     let deep = laws.deep w (a .at .0) (a .n) (a .k) (a .span) (a .lo) (a .hi) here (f .before .if1 .left) (f .if2 .left) in
-    let g = c in
-    let h = g .before .halves .result in
-    let r = g .parted .result in
     omega arith
 
 -- src/lib.rt:184:9
@@ -132,9 +127,6 @@ after-sub-after-2 t c =
     let w = now (a .w) in
     let here = s .pre .1 in
     let deep = laws.deep w (a .at .0) (a .n) (a .k) (a .span) (a .lo) (a .hi) here (f .before .if1 .left) (f .if2 .left) in
-    let g = c .before in
-    let h = g .before .halves .result in
-    let r = g .parted .result in
     omega arith
 
 -- src/lib.rt:185:9

@@ -72,8 +72,6 @@ all-in-cast-q t c =
     let e = c in
     let s = e .before .before .before .before in
     let a = s .args in
-    let w = now (a .w) in
-    let here = s .pre .1 in
     let n0 = e .before .if1 .left in
     let n1 = e .if2 .left in
     omega (arith, e .before .before .shared-slice-known2 .given (a .at .0))

@@ -77,8 +77,6 @@ first-pair-cast-q t c =
     let e = c in
     let s = e .before .before .before .before in
     let a = s .args in
-    let w = now (a .w) in
-    let here = s .pre .1 .0 in
     let n0 = e .before .if1 .left in
     let n1 = e .if2 .left in
     omega (arith, e .before .before .shared-slice-known2 .given (a .at .0))
@@ -99,10 +97,6 @@ first-pair-add-q t c =
 first-pair-sub-q : (t : ℕ) → first-pair-lts.Need-sub-q (calls t) (first-pair-at t) first-pair.Post
 first-pair-sub-q t c =
     let e = c in
-    let s = e .before .before .before .before in
-    let a = s .args in
-    let w = now (a .w) in
-    let here = s .pre .1 .0 in
     let n0 = e .before .if1 .left in
     let n1 = e .if2 .left in
     omega arith
@@ -124,8 +118,6 @@ first-pair-sub-pair-here : (t : ℕ) → first-pair-lts.Need-sub-pair-here (call
 first-pair-sub-pair-here t c =
     let e = c in
     let s = e .before .before .before .before in
-    let a = s .args in
-    let w = now (a .w) in
     let here = s .pre .1 .0 in
     let n0 = e .before .if1 .left in
     let n1 = e .if2 .left in
@@ -214,9 +206,6 @@ first-pair-shifted-requires : (t : ℕ) → first-pair-lts.Need-shifted-requires
 first-pair-shifted-requires t c κs =
     let e = c .before .before .before .before in
     let s = e .before .before .before .before in
-    let a = s .args in
-    let w = now (a .w) in
-    let here = s .pre .1 .0 in
     let n0 = e .before .if1 .left in
     let n1 = e .if2 .left in
     (c .first-pair2 .ensures .1, omega (arith, s .pre .1 .1))
@@ -245,7 +234,6 @@ first-pair-returns-3 t c =
     let f2 = c .before .before .before .first-pair2 in
     let sh = c .before .before .shifted in
     let oe = c .before .or-else in
-    let wh = ask.half-is (a .k) (a .span) (ask.deep w (a .at .0) (a .k) (a .span) 0 0 here n0 n1) (here .whole) in
     let L = treeOf (a .k - 1) (here .set) in
     let R = treeOf (a .k - 1) (shift (2 ^ (a .k - 1)) (here .set)) in
     let hb = subst (λ x. Below x (a .span)) (sym (ph .ensures L R (ask.halves w (a .at .0) (a .k) (a .span) 0 0 here n0 n1 (here .set) (here .laid) .left) (ask.right-at w (a .at .0) (a .k) (a .span) 0 0 here n0 n1 (here .set) (here .laid)))) (laws.here-below L R (a .from) (a .span - 1) (a .span) (omega (arith, here .inside))) in

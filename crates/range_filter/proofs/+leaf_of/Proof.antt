@@ -51,8 +51,6 @@ leaf-of-sub-t13 :
     (t : ℕ) → leaf-of-lts.Need-sub-t14 (leaf-of-below t, leaf-of.Post) (leaf-of-at t) leaf-of.Post
 leaf-of-sub-t13 t c =
     let s = c .before .before .before in
-    let a = s .args in
-    let w = now (a .w) in
     let here = s .pre .1 in
     omega (arith, here .inside)
 
@@ -71,8 +69,6 @@ leaf-of-sub-t14 :
     (t : ℕ) → leaf-of-lts.Need-sub-t15 (leaf-of-below t, leaf-of.Post) (leaf-of-at t) leaf-of.Post
 leaf-of-sub-t14 t c =
     let s = c .before .before .before .before in
-    let a = s .args in
-    let w = now (a .w) in
     let here = s .pre .1 in
     omega (arith, here .inside)
 
@@ -153,8 +149,6 @@ leaf-of-cast-leaf-of t c =
     let e = c .before in
     let s = e .before .before .before .before in
     let a = s .args in
-    let w = now (a .w) in
-    let here = s .pre .1 in
     let n0 = e .before .if1 .left in
     let n1 = e .if2 .left in
     omega (arith, e .before .before .shared-slice-known2 .given (a .at .0))
@@ -179,10 +173,6 @@ leaf-of-sub-leaf-of-2 :
     leaf-of-lts.Need-sub-t20 (leaf-of-below t, leaf-of.Post) (leaf-of-at t) leaf-of.Post
 leaf-of-sub-leaf-of-2 t c =
     let e = c .before in
-    let s = e .before .before .before .before in
-    let a = s .args in
-    let w = now (a .w) in
-    let here = s .pre .1 in
     let n0 = e .before .if1 .left in
     let n1 = e .if2 .left in
     omega arith
@@ -223,9 +213,6 @@ leaf-of-add-t11 :
 leaf-of-add-t11 t c =
     let e = c .before .before .before in
     let s = e .before .before .before .before in
-    let a = s .args in
-    let w = now (a .w) in
-    let here = s .pre .1 in
     let n0 = e .before .if1 .left in
     let n1 = e .if2 .left in
     omega (arith, c .before .leaf-of2 .ensures .1, s .fits .span)
@@ -236,9 +223,6 @@ leaf-of-add-t19 :
 leaf-of-add-t19 t c =
     let e = c .before .before .before .before in
     let s = e .before .before .before .before in
-    let a = s .args in
-    let w = now (a .w) in
-    let here = s .pre .1 in
     let n0 = e .before .if1 .left in
     let n1 = e .if2 .left in
     omega (arith, c .before .before .leaf-of2 .ensures .1, s .fits .span)

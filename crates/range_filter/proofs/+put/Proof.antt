@@ -135,9 +135,6 @@ put-after-requires : (t : ℕ) → put-lts.Need-after-requires (
 ) (put-at t) put.Post
 put-after-requires t c κs =
     let s = c .before .before .before in
-    let a = s .args in
-    let w = now (a .w) in
-    let o = now (a .out) in
     let here = s .pre .1 in
     here .spot
 
@@ -287,7 +284,6 @@ put-halves-requires t c κs =
     let s = f .before .before .before .before .before .before in
     let a = s .args in
     let w = now (a .w) in
-    let o = now (a .out) in
     let here = s .pre .1 in
     let S = here .spot .set in
     let two : (D : ℕ → Bool) → _ → 2 ≤ kindOf (formOf (treeOf (a .k) (paint (a .b) (a .lo) (a .hi) D))) = λ D h. subst (λ (i : ℕ). 2 ≤ i) (f .before .kind .ensures ∙ ap kindOf (f .before .before .after .ensures D h)) (f .if2 .left) in
@@ -314,7 +310,6 @@ put-parted-requires t c κs =
     let s = f .before .before .before .before .before .before in
     let a = s .args in
     let w = now (a .w) in
-    let o = now (a .out) in
     let here = s .pre .1 in
     let S = here .spot .set in
     let two : (D : ℕ → Bool) → _ → 2 ≤ kindOf (formOf (treeOf (a .k) (paint (a .b) (a .lo) (a .hi) D))) = λ D h. subst (λ (i : ℕ). 2 ≤ i) (f .before .kind .ensures ∙ ap kindOf (f .before .before .after .ensures D h)) (f .if2 .left) in
@@ -340,15 +335,10 @@ put-sub-put t c =
     let f = c .before .before in
     let s = f .before .before .before .before .before .before in
     let a = s .args in
-    let w = now (a .w) in
-    let o = now (a .out) in
     let here = s .pre .1 in
     let S = here .spot .set in
     let two : (D : ℕ → Bool) → _ → 2 ≤ kindOf (formOf (treeOf (a .k) (paint (a .b) (a .lo) (a .hi) D))) = λ D h. subst (λ (i : ℕ). 2 ≤ i) (f .before .kind .ensures ∙ ap kindOf (f .before .before .after .ensures D h)) (f .if2 .left) in
     let deep = laws.mixed-deep (a .k) (paint (a .b) (a .lo) (a .hi) S) (two S (here .spot .laid)) in
-    let g = c in
-    let h = g .before .halves .result in
-    let r = g .parted .result in
     omega arith
 
 -- src/lib.rt:228:67
@@ -376,9 +366,6 @@ put-add-put t c =
     let S = here .spot .set in
     let two : (D : ℕ → Bool) → _ → 2 ≤ kindOf (formOf (treeOf (a .k) (paint (a .b) (a .lo) (a .hi) D))) = λ D h. subst (λ (i : ℕ). 2 ≤ i) (f .before .kind .ensures ∙ ap kindOf (f .before .before .after .ensures D h)) (f .if2 .left) in
     let deep = laws.mixed-deep (a .k) (paint (a .b) (a .lo) (a .hi) S) (two S (here .spot .laid)) in
-    let g = c .before in
-    let h = g .before .halves .result in
-    let r = g .parted .result in
     omega (arith, laws.some-room w (a .at .0) (a .n) (a .k) (a .span) (a .lo) (a .hi) (a .b) (length o) (a .to .0) here, s .good)
 
 -- src/lib.rt:228:9
@@ -668,19 +655,7 @@ put-same-length-3 t c =
     let f = c .before .before .before .before .before .before .before .before .before .before in
     let s = f .before .before .before .before .before .before in
     let a = s .args in
-    let w = now (a .w) in
-    let o = now (a .out) in
-    let here = s .pre .1 in
-    let S = here .spot .set in
-    let two : (D : ℕ → Bool) → _ → 2 ≤ kindOf (formOf (treeOf (a .k) (paint (a .b) (a .lo) (a .hi) D))) = λ D h. subst (λ (i : ℕ). 2 ≤ i) (f .before .kind .ensures ∙ ap kindOf (f .before .before .after .ensures D h)) (f .if2 .left) in
-    let deep = laws.mixed-deep (a .k) (paint (a .b) (a .lo) (a .hi) S) (two S (here .spot .laid)) in
-    let g = c .before .before .before .before .before .before .before .before in
-    let h = g .before .halves .result in
-    let r = g .parted .result in
     let u = c .before .before .before .before .before .before .put in
-    let m = alaws.mine w (a .at .0) (a .n) (a .k) (a .span) (a .lo) (a .hi) (here .spot) deep (h .lp .0) (h .ln) (h .rp .0) (h .rn) (g .before .halves .ensures) (r .llo) (r .lhi) (r .rlo) (r .rhi) (g .parted .ensures) in
-    let x = u .ensures S (m .left) in
-    let few = laws.left-few w (a .at .0) (a .n) (a .k) (a .span) (a .lo) (a .hi) (a .b) (length o) (a .to .0) here deep (h .lp .0) (h .ln) (h .rp .0) (h .rn) (g .before .halves .ensures) (r .llo) (r .lhi) (r .rlo) (r .rhi) (g .parted .ensures) (two S (here .spot .laid)) in
     c .before .before .put2 .kept .1 .1 .1 .1 .1 .1 .1 .1 .0 ∙ length-set (u .last .1 .1 .1 .1 .1 .1 .1 .1 .0) (a .to .0) (u .result .0 - a .to .0 + 1) ∙ u .kept .1 .1 .1 .1 .1 .1 .1 .1 .0
 
 -- src/lib.rt:212:1
@@ -712,9 +687,6 @@ put-returns-3 t c =
     let h = g .before .halves .result in
     let r = g .parted .result in
     let u = c .before .before .before .before .before .before .put in
-    let m = alaws.mine w (a .at .0) (a .n) (a .k) (a .span) (a .lo) (a .hi) (here .spot) deep (h .lp .0) (h .ln) (h .rp .0) (h .rn) (g .before .halves .ensures) (r .llo) (r .lhi) (r .rlo) (r .rhi) (g .parted .ensures) in
-    let x = u .ensures S (m .left) in
-    let few = laws.left-few w (a .at .0) (a .n) (a .k) (a .span) (a .lo) (a .hi) (a .b) (length o) (a .to .0) here deep (h .lp .0) (h .ln) (h .rp .0) (h .rn) (g .before .halves .ensures) (r .llo) (r .lhi) (r .rlo) (r .rhi) (g .parted .ensures) (two S (here .spot .laid)) in
     λ D at. let v = g .before .halves .ensures D at in laws.node-wrote w (a .at .0) (a .n) (a .k) (a .span) (a .lo) (a .hi) (a .b) (length o) (a .to .0) here deep (h .lp .0) (h .ln) (h .rp .0) (h .rn) (g .before .halves .ensures) (r .llo) (r .lhi) (r .rlo) (r .rhi) (g .parted .ensures) D (two D at) o (u .last .1 .1 .1 .1 .1 .1 .1 .1 .0) _ (u .result .0) (c .before .before .put2 .result .0) (u .ensures D (v .left)) (c .before .before .put2 .ensures (shift (2 ^ (a .k - 1)) D) (v .right))
 
 pub +put-spec : {M : Type 1} → statement M

@@ -34,7 +34,6 @@ returns c =
     let s = c .before .before in
     let a = s .args in
     let w = now (a .w) in
-    let here = s .pre .0 in
     laws.form-leaf w (a .at .0) false (c .if1 .taken)
 
 -- src/lib.rt:129:9
@@ -43,7 +42,6 @@ returns-2 c =
     let s = c .before .before .before in
     let a = s .args in
     let w = now (a .w) in
-    let here = s .pre .0 in
     laws.form-leaf w (a .at .0) true (c .if2 .taken)
 
 -- src/lib.rt:131:17

@@ -34,8 +34,6 @@ cast-v : tie.Need-cast-v
 cast-v c =
     let s = c .before in
     let a = s .args in
-    let w = now (a .w) in
-    let here = s .pre in
     omega (arith, c .shared-slice-known .given (a .at .0))
 
 -- src/lib.rt:141:9
