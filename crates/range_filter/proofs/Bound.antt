@@ -11,13 +11,13 @@ use native.Mathlib.Nat.{two-pow-succ, mul-add, suc-mul, add-zero}
 use native.Mathlib.Numerals.{add-one}
 use native.Mathlib.Omega.{arith}
 use lib.Pow.{pow-pos}
-use Rattle.range_filter.specs.Tree.{Tree, leaf, node, join, shift, treeOf, splits}
-use Rattle.range_filter.specs.Layout.{leafWord}
+use Rattle.halving_tree.specs.Tree.{Tree, leaf, node, join, shift, treeOf, splits}
+use Rattle.halving_tree.specs.Encode.{leafWord}
 use Rattle.words.specs.Lists.{has}
 use Rattle.range_filter.specs.Beside.{Beside, different}
-use Rattle.range_filter.proofs.Laws.{treeOf-ext, treeOf-const}
-use Rattle.range_filter.proofs.AskLaws.{by-halves}
-use Rattle.range_filter.proofs.FormLaws.{join-splits}
+use Rattle.halving_tree.proofs.Laws.{treeOf-ext, treeOf-const}
+use Rattle.halving_tree.proofs.AskLaws.{by-halves}
+use Rattle.halving_tree.proofs.FormLaws.{join-splits}
 
 -- how many of the keys 0 to 2^k - 1 are in K
 pub count : ℕ → (ℕ → Bool) → ℕ

@@ -3,7 +3,7 @@ use mathlib.Core.Bool.{Bool, true, false, cond, _&&_, not}
 use mathlib.Core.List.{List, [], _∷_, _++_}
 use Prim.Native.Nat.{ℕ, zero, suc, _+_, _^_}
 use lib.Dec.{eqb}
-use Rattle.range_filter.specs.Tree.{splits}
+use Rattle.halving_tree.specs.Tree.{splits}
 use Rattle.range_filter.specs.Layout.{Memory, treeIn}
 use Rattle.range_filter.specs.Calls.{freshMemory, run, allIn, learnt, tooMany, arrived, single, forgotten}
 

@@ -6,9 +6,4 @@ pub mod Promise
 pub mod History
 pub mod Beside
 pub mod Examples
-pub mod Place
-pub mod Seen
-pub mod Form
-pub mod Found
 pub mod Loaded
-pub mod Repaint

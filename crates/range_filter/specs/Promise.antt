@@ -7,7 +7,7 @@ use lib.Dec.{ltb, leb, eqb}
 use lib.ListN.{length}
 use lib.Seq.{sets}
 use Rattle.words.specs.Numbers.{Number, numbered, done, low-above-high, space-too-short, bad-levels, no-key, no-filter, no-room, nothing-to-forget, room-too-large}
-use Rattle.range_filter.specs.Tree.{splits}
+use Rattle.halving_tree.specs.Tree.{splits}
 use Rattle.range_filter.specs.Layout.{Memory, treeIn, layout, wordsNeeded, Filter}
 use Rattle.range_filter.specs.Calls.{freshMemory, allIn, learnt, tooMany, arrived, single, forgotten}
 use Rattle.range_filter.specs.declared.Made.{Made}

@@ -7,10 +7,10 @@ use native.Mathlib.Omega.{arith}
 use lib.Pow.{pow-pos}
 use Rattle.range_filter.specs.Layout.{treeIn}
 use Rattle.range_filter.specs.Calls.{forgotten}
-use Rattle.range_filter.specs.Found.{Below}
+use Rattle.halving_tree.specs.Found.{Below}
 use Rattle.range_filter.specs.Loaded.{IsLoaded}
 use Rattle.range_filter.specs.Promise.{forgotNumber, forgetAnswer}
-use Rattle.range_filter.specs.declared.Found.{Found}
+use Rattle.halving_tree.specs.declared.Found.{Found}
 use Rattle.range_filter.specs.declared.Forgot.the-variants as forgot
 use Rattle.range_filter.proofs.PromiseLaws.{kept-bad, kept-good, tree-here}
 use Rattle.range_filter.proofs.LearnLaws.{levels-few, span-small, ready}
