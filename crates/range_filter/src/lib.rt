@@ -9,13 +9,6 @@ ghost use Rattle.range_filter.specs.Calls.{keyAfter};
 ghost use Rattle.range_filter.specs.Loaded.{IsLoaded};
 ghost use Rattle.range_filter.specs.Promise.{Fresh, Ask, Learn, Arrive, Forget, Depart, Read};
 
-fn span_of(k: u32) -> u32
-    requires { ⌜ k ≤ 20 ⌝ }
-    ensures { λ r. ⌜ r ≡ 2 ^ k ⌝ }
-{
-    1u32 << k
-}
-
 // A key of the filter.
 pub struct Key(pub u32);
 
@@ -30,6 +23,13 @@ struct Head {
 enum Loaded {
     Bad,
     Good(Head),
+}
+
+fn span_of(k: u32) -> u32
+    requires { ⌜ k ≤ 20 ⌝ }
+    ensures { λ r. ⌜ r ≡ 2 ^ k ⌝ }
+{
+    1u32 << k
 }
 
 // The filter's header and its tree's words, or that the words are no filter.
@@ -72,6 +72,47 @@ fn load(w: &[u32]) -> Loaded
     })
 }
 
+// What making a filter answers.
+pub enum Made {
+    Levels,
+    Room,
+    Short(u32),
+    Done,
+}
+
+// The words needed for a room.
+fn needed(room: u32) -> u32
+    requires { ⌜ room ≤ 4095 ⌝ }
+    ensures { λ r. ⌜ r ≡ wordsNeeded room ⌝ }
+    ensures { λ r. ⌜ 4 ≤ r ⌝ }
+{
+    2 * room + 4
+}
+
+// A filter that remembers no key.
+pub fn fresh(levels: u32, room: u32, w: &mut [u32]) -> Made
+    ensures { λ r. ⌜ Fresh levels room (now (w .entry)) r (now (w .exit)) ⌝ }
+{
+    if levels < 1 {
+        return Made::Levels;
+    }
+    if 20 < levels {
+        return Made::Levels;
+    }
+    if 4095 < room {
+        return Made::Room;
+    }
+    let n = needed(room);
+    if w.len() < n as usize {
+        return Made::Short(n);
+    }
+    w[0] = levels;
+    w[1] = room;
+    w[2] = 0;
+    w[3] = 0;
+    Made::Done
+}
+
 // What asking a range answers.
 pub enum Asked {
     NoFilter,
@@ -105,56 +146,6 @@ pub fn ask(w: &[u32], low: Key, high: Key) -> Asked
         return Asked::Denied;
     }
     Asked::Look
-}
-
-// What the report of a departure answers.
-pub enum Departed {
-    NoFilter,
-    NoKey,
-    Done,
-}
-
-// A departure changes nothing, since another row may carry the same key.
-pub fn departure(w: &[u32], key: Key) -> Departed
-    ensures { λ r. ⌜ Depart (now (w .entry)) (key .0) r ⌝ }
-{
-    let Loaded::Good(h) = load(w) else {
-        return Departed::NoFilter;
-    };
-    let x = key.0;
-    if span_of(h.levels) <= x {
-        return Departed::NoKey;
-    }
-    Departed::Done
-}
-
-// What accepted words mean, beside the set D.
-pub struct Meaning {
-    pub levels: u32,
-    pub room: u32,
-    pub hand: Key,
-    pub splits: u32,
-}
-
-pub enum Reading {
-    NoFilter,
-    Means(Meaning),
-}
-
-// What the words mean, for a fitter to see.
-pub fn read(w: &[u32]) -> Reading
-    ensures { λ r. ⌜ Read (now (w .entry)) r ⌝ }
-{
-    let Loaded::Good(h) = load(w) else {
-        return Reading::NoFilter;
-    };
-    let hand = h.hand;
-    Reading::Means(Meaning {
-        levels: h.levels,
-        room: h.room,
-        hand,
-        splits: (h.n / 2) as u32,
-    })
 }
 
 // What learning a range answers.
@@ -222,45 +213,32 @@ pub fn arrival(w: &mut [u32], key: Key) -> Arrived
     Arrived::Done
 }
 
-// What making a filter answers.
-pub enum Made {
-    Levels,
-    Room,
-    Short(u32),
+// What the report of a departure answers.
+pub enum Departed {
+    NoFilter,
+    NoKey,
     Done,
 }
 
-// The words needed for a room.
-fn needed(room: u32) -> u32
-    requires { ⌜ room ≤ 4095 ⌝ }
-    ensures { λ r. ⌜ r ≡ wordsNeeded room ⌝ }
-    ensures { λ r. ⌜ 4 ≤ r ⌝ }
+// A departure changes nothing, since another row may carry the same key.
+pub fn departure(w: &[u32], key: Key) -> Departed
+    ensures { λ r. ⌜ Depart (now (w .entry)) (key .0) r ⌝ }
 {
-    2 * room + 4
+    let Loaded::Good(h) = load(w) else {
+        return Departed::NoFilter;
+    };
+    let x = key.0;
+    if span_of(h.levels) <= x {
+        return Departed::NoKey;
+    }
+    Departed::Done
 }
 
-// A filter that remembers no key.
-pub fn fresh(levels: u32, room: u32, w: &mut [u32]) -> Made
-    ensures { λ r. ⌜ Fresh levels room (now (w .entry)) r (now (w .exit)) ⌝ }
-{
-    if levels < 1 {
-        return Made::Levels;
-    }
-    if 20 < levels {
-        return Made::Levels;
-    }
-    if 4095 < room {
-        return Made::Room;
-    }
-    let n = needed(room);
-    if w.len() < n as usize {
-        return Made::Short(n);
-    }
-    w[0] = levels;
-    w[1] = room;
-    w[2] = 0;
-    w[3] = 0;
-    Made::Done
+// What forgetting answers.
+pub enum Forgot {
+    NoFilter,
+    Nothing,
+    Done,
 }
 
 // The key after x, or 0 past the end.
@@ -272,13 +250,6 @@ fn key_after(x: u32, span: u32) -> u32
         return 0;
     }
     x + 1
-}
-
-// What forgetting answers.
-pub enum Forgot {
-    NoFilter,
-    Nothing,
-    Done,
 }
 
 // The range of the chosen split leaves D, and the hand moves behind it.
@@ -300,4 +271,33 @@ pub fn forget(w: &mut [u32]) -> Forgot
     halving_tree::repaint(w, n, levels, span, lo, hi, false);
     w[2] = next;
     Forgot::Done
+}
+
+// What accepted words mean, beside the set D.
+pub struct Meaning {
+    pub levels: u32,
+    pub room: u32,
+    pub hand: Key,
+    pub splits: u32,
+}
+
+pub enum Reading {
+    NoFilter,
+    Means(Meaning),
+}
+
+// What the words mean, for a fitter to see.
+pub fn read(w: &[u32]) -> Reading
+    ensures { λ r. ⌜ Read (now (w .entry)) r ⌝ }
+{
+    let Loaded::Good(h) = load(w) else {
+        return Reading::NoFilter;
+    };
+    let hand = h.hand;
+    Reading::Means(Meaning {
+        levels: h.levels,
+        room: h.room,
+        hand,
+        splits: (h.n / 2) as u32,
+    })
 }
