@@ -101,6 +101,10 @@ learntNumber taught.Order = numbered low-above-high
 learntNumber taught.NoRoom = numbered no-room
 learntNumber taught.Done = numbered done
 
+-- nothing stands beside it
+abbrev pub learntBeside : Learnt → ℕ
+learntBeside r = 0
+
 abbrev pub learnAnswer : ℕ → ℕ → Memory → Learnt
 learnAnswer lo hi m = ofRange taught.NoKey taught.Order lo hi m (cond (tooMany (learnt m lo hi)) taught.NoRoom taught.Done)
 
@@ -112,6 +116,10 @@ abbrev pub arrivedNumber : Arrived → ℕ
 arrivedNumber came.NoFilter = numbered no-filter
 arrivedNumber came.NoKey = numbered no-key
 arrivedNumber came.Done = numbered done
+
+-- nothing stands beside it
+abbrev pub arrivedBeside : Arrived → ℕ
+arrivedBeside r = 0
 
 abbrev pub arriveAnswer : ℕ → Memory → Arrived
 arriveAnswer x m = ofKey came.NoKey x m came.Done
@@ -125,6 +133,10 @@ departedNumber departed.NoFilter = numbered no-filter
 departedNumber departed.NoKey = numbered no-key
 departedNumber departed.Done = numbered done
 
+-- nothing stands beside it
+abbrev pub departedBeside : Departed → ℕ
+departedBeside r = 0
+
 abbrev pub departAnswer : ℕ → Memory → Departed
 departAnswer x m = ofKey departed.NoKey x m departed.Done
 
@@ -136,6 +148,10 @@ abbrev pub forgotNumber : Forgot → ℕ
 forgotNumber forgot.NoFilter = numbered no-filter
 forgotNumber forgot.Nothing = numbered nothing-to-forget
 forgotNumber forgot.Done = numbered done
+
+-- nothing stands beside it
+abbrev pub forgotBeside : Forgot → ℕ
+forgotBeside r = 0
 
 abbrev pub forgetAnswer : Memory → Forgot
 forgetAnswer m = cond (single (treeIn m)) forgot.Nothing forgot.Done
