@@ -10,7 +10,7 @@ ghost use mathlib.Core.Path.{_≡_};
 ghost use Prim.Native.Nat.{_≤_};
 ghost use lib.ListN.{length};
 ghost use mathlib.Core.List.{[], _∷_};
-ghost use Rattle.words.specs.Lists.{ceil, after};
+ghost use Rattle.words.specs.Lists.{after};
 ghost use Rattle.words.specs.Numbers.{numbered};
 ghost use Rattle.bins.specs.Bins.{readings};
 ghost use Rattle.dictionary.specs.Dictionary.{unpack};
@@ -72,14 +72,6 @@ pub enum IndexCheck {
     NoIndex,
 }
 
-// How many lines so many rows make. The last may be shorter.
-fn line_count(rows: usize) -> usize
-    requires { ⌜ rows ≤ 16777216 ⌝ }
-    ensures { λ r. ⌜ r ≡ ceil rows 16 ⌝ }
-{
-    (rows + 15) / 16
-}
-
 // The checks 2, 5 and 3.
 pub fn checked(column: &[i32], borders: &[i32], imprints: &[u64], dictionary: &[u32]) -> IndexCheck
     ensures { λ r. ⌜ r ≡ checked-answer (now (column .entry)) (now (borders .entry)) (now (imprints .entry)) (now (dictionary .entry)) ⌝ }
@@ -89,7 +81,12 @@ pub fn checked(column: &[i32], borders: &[i32], imprints: &[u64], dictionary: &[
     }
     if bins::good_borders(borders) {
         let n = borders.len() as u32 + 1;
-        if dictionary::accepting::accepted(dictionary, imprints, n, line_count(column.len())) {
+        if dictionary::accepting::accepted(
+            dictionary,
+            imprints,
+            n,
+            made::line_count(column.len()),
+        ) {
             return IndexCheck::Fine;
         }
         return IndexCheck::NoIndex;

@@ -14,8 +14,8 @@ ghost use Rattle.bins.specs.Bins.{readings, borders, bins};
 ghost use Rattle.column_index.specs.Index.{packed-with};
 ghost use Rattle.column_index.specs.Promise.{Builds, Packs, Unpacks};
 
-// How many lines so many rows make.
-fn line_count(rows: usize) -> usize
+// How many lines so many rows make. The last may be shorter.
+pub(crate) fn line_count(rows: usize) -> usize
     requires { ⌜ rows ≤ 16777216 ⌝ }
     ensures { λ r. ⌜ r ≡ ceil rows 16 ⌝ }
 {

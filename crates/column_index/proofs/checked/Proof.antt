@@ -15,7 +15,6 @@ use Rattle.column_index.proofs.checked.Tie as tie
 use Rattle.column_index.proofs.checked.Reads as reads
 use Rattle.column_index.proofs.checked.Lts as lts
 use Rattle.bins.proofs.good_borders.Reads as good-borders-reads
-use Rattle.column_index.proofs.line_count.Reads as line-count-reads
 use Rattle.dictionary.proofs.accepting.accepted.Reads as accepted-reads
 
 -- src/lib.rt:86:9
