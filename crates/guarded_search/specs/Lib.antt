@@ -1,2 +1,3 @@
 pub mod Guarded
+pub mod Gaps
 pub mod Examples
