@@ -5,3 +5,4 @@ pub mod PromiseLaws
 pub mod RunLaws
 pub mod EntryLaws
 pub mod FillLaws
+pub mod CallLaws

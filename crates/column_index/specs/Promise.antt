@@ -19,6 +19,8 @@ use Rattle.column_index.specs.declared.PackAnswer.{PackAnswer}
 use Rattle.column_index.specs.declared.PackAnswer.the-variants as packing
 use Rattle.column_index.specs.declared.UnpackAnswer.{UnpackAnswer}
 use Rattle.column_index.specs.declared.UnpackAnswer.the-variants as unpacking
+use Rattle.column_index.specs.declared.IndexCheck.{IndexCheck}
+use Rattle.column_index.specs.declared.IndexCheck.the-variants as checking
 use Rattle.column_index.specs.declared.SearchAnswer.{SearchAnswer}
 use Rattle.column_index.specs.declared.SearchAnswer.the-variants as searching
 
@@ -155,3 +157,9 @@ search-answer col bs is ds low high space =
 pub record Searches (col bs : List ℤ) (is ds : List ℕ) (low high : ℤ) (rows : List ℕ) (r : SearchAnswer) (rows′ : List ℕ) : Type 0 where
   pub answers : r ≡ search-answer col bs is ds low high (length rows)
   pub rows-after : rows′ ≡ after (numbered (search-number r)) (search-by readings bs ds is col low high .ids) rows
+
+-- the first three checks of the range search, 2, 5, 3, by themselves
+unfoldable pub checked-answer : List ℤ → List ℤ → List ℕ → List ℕ → IndexCheck
+checked-answer col bs is ds =
+    cond (ltb most-rows (length col)) checking.TooLong
+    (cond (not (good-borders bs)) checking.BadBorders (cond (not (is-index-for readings bs col ds is)) checking.NoIndex checking.Fine))

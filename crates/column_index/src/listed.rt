@@ -67,7 +67,15 @@ fn first_row(line: Line) -> Row
 }
 
 // The rows of n lines of one imprint, from `line` on, written from place `at` on. Gives the next place.
-fn fill_run(rows: &mut [u32], at: usize, column: &[i32], line: Line, n: usize, imprint: u64, ask: Ask) -> usize
+fn fill_run(
+    rows: &mut [u32],
+    at: usize,
+    column: &[i32],
+    line: Line,
+    n: usize,
+    imprint: u64,
+    ask: Ask,
+) -> usize
     requires { ⌜ (at + length (run-at readings (asked-of ask) (now column) imprint (line .0) n .ids) ≤ length (now rows)) × (line .0 + n ≤ 1048576) × (length (now column) ≤ 16777216) ⌝ }
     ensures { λ r. ⌜ (now (rows .exit) ≡ sets (now (rows .entry)) at (run-at readings (asked-of ask) (now (column .entry)) imprint (line .0) n .ids)) × (r ≡ at + length (run-at readings (asked-of ask) (now (column .entry)) imprint (line .0) n .ids)) ⌝ }
 {
@@ -83,7 +91,14 @@ fn fill_run(rows: &mut [u32], at: usize, column: &[i32], line: Line, n: usize, i
 }
 
 // The rows of lines with these imprints, from `line` on.
-fn fill_plain(rows: &mut [u32], at: usize, column: &[i32], line: Line, imprints: &[u64], ask: Ask) -> usize
+fn fill_plain(
+    rows: &mut [u32],
+    at: usize,
+    column: &[i32],
+    line: Line,
+    imprints: &[u64],
+    ask: Ask,
+) -> usize
     requires { ⌜ (at + length (through readings (asked-of ask) (now column) (line .0) (now imprints) .ids) ≤ length (now rows)) × (line .0 + length (now imprints) ≤ 1048576) × (length (now column) ≤ 16777216) ⌝ }
     ensures { λ r. ⌜ (now (rows .exit) ≡ sets (now (rows .entry)) at (through readings (asked-of ask) (now (column .entry)) (line .0) (now (imprints .entry)) .ids)) × (r ≡ at + length (through readings (asked-of ask) (now (column .entry)) (line .0) (now (imprints .entry)) .ids)) ⌝ }
 {
@@ -98,7 +113,15 @@ fn fill_plain(rows: &mut [u32], at: usize, column: &[i32], line: Line, imprints:
 }
 
 // The rows of an entry's lines, from `line` on. The imprints begin with the entry's own.
-fn fill_entry(rows: &mut [u32], at: usize, column: &[i32], line: Line, d: u32, imprints: &[u64], ask: Ask) -> usize
+fn fill_entry(
+    rows: &mut [u32],
+    at: usize,
+    column: &[i32],
+    line: Line,
+    d: u32,
+    imprints: &[u64],
+    ask: Ask,
+) -> usize
     requires { ⌜ (at + length (through readings (asked-of ask) (now column) (line .0) (entry-lines d (now imprints)) .ids) ≤ length (now rows)) × (line .0 + count-of d ≤ 1048576) × (length (now column) ≤ 16777216) × (entry-kept d ≤ length (now imprints)) ⌝ }
     ensures { λ r. ⌜ (now (rows .exit) ≡ sets (now (rows .entry)) at (through readings (asked-of ask) (now (column .entry)) (line .0) (entry-lines d (now (imprints .entry))) .ids)) × (r ≡ at + length (through readings (asked-of ask) (now (column .entry)) (line .0) (entry-lines d (now (imprints .entry))) .ids)) ⌝ }
 {

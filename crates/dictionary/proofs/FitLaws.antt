@@ -1,16 +1,16 @@
 -- Fit imprints, one after the other. Assumes nothing.
 use Prim.Native.Nat.{ℕ, zero, suc, _+_, _*_, _%_, _^_, _<_, _≤_}
 use mathlib.Core.Path.{_≡_, refl, sym, _∙_, ap}
-use mathlib.Core.List.{List, [], _∷_}
-use mathlib.Core.Bool.{Bool, true, false, _&&_}
+use mathlib.Core.List.{List}
+use mathlib.Core.Bool.{Bool, true, false, _&&_, and-false}
 use native.Mathlib.Omega.{arith}
 use native.Mathlib.Nat.{one-mul}
 use native.Mathlib.Numerals.{add-one}
-use lib.Dec.{leb, ltb, lit<}
+use lib.Dec.{leb, lit<}
 use lib.Pow.{shl-exact}
 use lib.ListN.{length, getD, drop, drop-of-length-le}
 use lib.Seq.{drop-cons}
-use borrow.Author.Tests.{le-leb, lt-leb, lt-ltb, le-ltb}
+use borrow.Author.Tests.{le-leb, lt-ltb, le-ltb}
 use Rattle.words.specs.Lists.{every}
 use Rattle.dictionary.specs.Dictionary.{fit}
 
@@ -28,11 +28,7 @@ module _ (n : ℕ) (ws : List ℕ) (i : ℕ) (inside : i < length ws) where
   fit-zero e = next false (rw e)
 
   pub fit-large : 2 ^ n ≤ getD ws i 0 → every (fit n) (drop i ws) ≡ false
-  fit-large h = next false (and-no (leb 1 here) (ltb here (2 ^ n)) (le-ltb here (2 ^ n) h))
-    where
-      and-no : (a b : Bool) → b ≡ false → (a && b) ≡ false
-      and-no true b e = e
-      and-no false b e = refl
+  fit-large h = next false (rw (le-ltb here (2 ^ n) h) (and-false (leb 1 here)))
 
   pub fit-next : (getD ws i 0 ≡ 0 → ⊥) → getD ws i 0 < 2 ^ n → every (fit n) (drop (i + 1) ws) ≡ every (fit n) (drop i ws)
   fit-next z h = sym (next true (rw (le-leb 1 here (above here z), lt-ltb here (2 ^ n) h)))

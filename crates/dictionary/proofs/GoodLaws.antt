@@ -1,20 +1,19 @@
 -- The pass over the words, by the tests that the program makes. Assumes nothing.
 use Prim.Native.Nat.{ℕ, zero, suc, _+_, _-_, _^_, _<_, _≤_}
 use mathlib.Core.Path.{_≡_, refl, sym, _∙_, ap}
-use mathlib.Core.List.{List, [], _∷_}
-use mathlib.Core.Bool.{Bool, true, false, cond, not, _&&_, and-eq-true-iff}
+use mathlib.Core.List.{List, _∷_}
+use mathlib.Core.Bool.{Bool, true, false, cond, not, _&&_, and-eq-true-iff, and-false, false≢true}
 use native.Mathlib.Omega.{arith}
 use native.Mathlib.Numerals.{add-one}
 use lib.Dec.{leb, ltb, eqb}
 use lib.ListN.{length, getD, take, drop, length-drop, drop-of-length-le}
 use lib.Seq.{slice-cons, length-take-le, drop-cons, drop-drop}
 use borrow.Author.Tests.{le-leb, lt-leb, lt-ltb, le-ltb, eq-eqb, ne-eqb, eqb-true, eqb-false, leb-true}
-use Rattle.dictionary.specs.Dictionary.{largest, count-of, repeated}
+use Rattle.dictionary.specs.Dictionary.{count-of, repeated}
 use Rattle.dictionary.specs.Entries.{uses}
-use Rattle.dictionary.specs.declared.accepting.Past.{Past}
 use Rattle.dictionary.specs.declared.accepting.Past.the-variants.{Start}
 use Rattle.dictionary.specs.declared.accepting.Before.{Before}
-use Rattle.dictionary.specs.Scan.{preceding, opens, goes-on, follows, neighbours, good-plain, good-repeat, good-entry, past-after, after-entry, scan}
+use Rattle.dictionary.specs.Scan.{preceding, opens, goes-on, neighbours, good-plain, good-repeat, good-entry, after-entry, scan}
 
 -- ---- neighbours
 
@@ -71,19 +70,15 @@ uses-one d r = rw r
 pub uses-all : (d : ℕ) → repeated d ≡ false → uses d ≡ count-of d
 uses-all d r = rw r
 
-and-no : (a : Bool) → (a && false) ≡ false
-and-no true = refl
-and-no false = refl
-
 module _ (d : ℕ) (is : List ℕ) (b : Before) (left : ℕ) where
   pub high-bits : 2 ^ 25 ≤ d → false ≡ good-entry d is b left
   high-bits h = rw (le-ltb d (2 ^ 25) h)
 
   pub too-many : left < count-of d → false ≡ good-entry d is b left
-  too-many h = rw (lt-leb (count-of d) left h, and-no (ltb d (2 ^ 25)))
+  too-many h = rw (lt-leb (count-of d) left h, and-false (ltb d (2 ^ 25)))
 
   pub too-short : length is < uses d → false ≡ good-entry d is b left
-  too-short h = rw (lt-leb (uses d) (length is) h, and-no (leb (count-of d) left), and-no (ltb d (2 ^ 25)))
+  too-short h = rw (lt-leb (uses d) (length is) h, and-false (leb (count-of d) left), and-false (ltb d (2 ^ 25)))
 
   pub in-bounds : (r : Bool) → d < 2 ^ 25 → count-of d ≤ left → uses d ≤ length is → r ≡ cond (repeated d) (good-repeat b (count-of d) (getD is 0 0)) (good-plain b (take (count-of d) is)) → r ≡ good-entry d is b left
   in-bounds r h m u e = e ∙ sym (rw (lt-ltb d (2 ^ 25) h, le-leb (count-of d) left m, le-leb (uses d) (length is) u))
@@ -93,9 +88,6 @@ module _ (d : ℕ) (is : List ℕ) (b : Before) (left : ℕ) where
 
   pub plain-in-bounds : (r : Bool) (c : ℕ) → c ≡ count-of d → repeated d ≡ false → d < 2 ^ 25 → count-of d ≤ left → uses d ≤ length is → r ≡ good-plain b (take c is) → r ≡ good-entry d is b left
   plain-in-bounds r c n t h m u e = in-bounds r h m u (rw t (e ∙ ap (λ (k : ℕ). good-plain b (take k is)) n))
-
-no : {X : Type 0} → false ≡ true → X
-no e = let z : _≡_ {A = ℕ} 0 1 = cc in absurd (omega arith)
 
 -- what the program may lean on once an entry is good
 pub record Fits (d : ℕ) (is : List ℕ) (left : ℕ) : Type 0 where
@@ -112,7 +104,7 @@ good-fits d is b left e =
   where
     one : (r : Bool) (c : ℕ) → cond r (good-repeat b c (getD is 0 0)) (good-plain b (take c is)) ≡ true → 1 ≤ cond r 1 c
     one true c e = omega arith
-    one false zero e = no e
+    one false zero e = absurd (false≢true e)
     one false (suc c) e = omega arith
 
 -- ---- all entries

@@ -1,5 +1,5 @@
 -- What a loop that packs keeps: for measuring, lengths; for writing, the stores still to come. Assumes nothing.
-use Prim.Native.Nat.{ℕ, zero, suc, _+_, _-_, _^_, _<_, _≤_}
+use Prim.Native.Nat.{ℕ, zero, suc, _+_, _-_, _<_, _≤_}
 use mathlib.Core.Path.{_≡_, refl, sym, _∙_, ap}
 use mathlib.Core.List.{List, [], _∷_, _++_}
 use mathlib.Core.Bool.{Bool, true, false, cond}
@@ -15,7 +15,6 @@ use Rattle.dictionary.specs.Dictionary.{largest, pack}
 use Rattle.dictionary.specs.declared.packing.Open.{Open}
 use Rattle.dictionary.specs.declared.packing.Open.the-variants.{Nothing, Lone, Run, Spill}
 use Rattle.dictionary.specs.declared.packing.Opened.{Opened}
-use Rattle.dictionary.specs.declared.packing.Turn.{Turn}
 use Rattle.dictionary.specs.declared.packing.Packer.{Packer}
 use Rattle.dictionary.specs.Packer.{opened, turn, fresh, Steady, move, move-on, last-of, last-word, settled, added, dict-from, imps-from, packer, after}
 use Rattle.dictionary.proofs.PackerLaws.{dict-is, imps-is}

@@ -1,20 +1,20 @@
 -- The program's packing gives the words of the entries of the runs. Assumes nothing.
-use Prim.Native.Nat.{ℕ, zero, suc, _+_, _-_, _^_, _<_, _≤_}
+use Prim.Native.Nat.{ℕ, suc, _+_, _-_, _^_, _≤_}
 use mathlib.Core.Path.{_≡_, refl, sym, _∙_, ap}
 use mathlib.Core.List.{List, [], _∷_, _++_, map, append-nil, append-assoc}
-use mathlib.Core.Bool.{Bool, true, false, cond}
+use mathlib.Core.Bool.{Bool, true, false}
 use native.Mathlib.Omega.{arith}
 use lib.Dec.{eqb}
 use lib.ListN.{length, length-append}
 use borrow.Author.Tests.{eqb-true}
 use Rattle.words.specs.Lists.{joined}
-use Rattle.dictionary.specs.Dictionary.{Entry, plain, repeat, entries, entry-word, kept, packed}
-use Rattle.dictionary.proofs.Stream.{State, empty, single, many, over, flush, close, step, stream, step-single, step-many, step-over}
+use Rattle.dictionary.specs.Dictionary.{Entry, entries, entry-word, kept, packed}
+use Rattle.dictionary.proofs.Stream.{State, empty, single, many, over, flush, step, stream, step-single, step-many, step-over}
 use Rattle.dictionary.proofs.StreamLaws.{stream-entries}
 use Rattle.dictionary.specs.declared.packing.Opened.{Opened}
-use Rattle.dictionary.specs.declared.packing.Open.the-variants.{Nothing, Lone, Run, Spill}
+use Rattle.dictionary.specs.declared.packing.Open.the-variants.{Lone, Run, Spill}
 use Rattle.dictionary.specs.declared.packing.Turn.{Turn}
-use Rattle.dictionary.specs.Packer.{opened, turn, fresh, move, move-on, last-word, settled, added, dict-from, imps-from}
+use Rattle.dictionary.specs.Packer.{opened, fresh, move, move-on, settled, added, dict-from, imps-from}
 
 abbrev pub opened-of : State → Opened
 opened-of empty = fresh

@@ -144,6 +144,12 @@ accepts-sized full small (repeat n w ∷ es) p e c =
     let h = and-eq-true-iff (may-repeat full p n w) (accepts full (many n w) es) .0 e in
     (omega (arith, c .1), omega (arith, c .0), accepts-sized full small es (many n w) (h .1) (c .2))
 
+-- the entries of a list have a line each, and counts that fit their words
+pub entries-sized : (full : ℕ) → 2 ≤ full → full < 2 ^ 24 → (ws : List ℕ) → Sized (entries full ws)
+entries-sized full two small ws =
+    let ok = entries-accepted full two ws in
+    accepts-sized full small (entries full ws) empty ok (accepts-counted full two (entries full ws) empty ok)
+
 -- THE STEPS GIVE THE LINES OF AN ACCEPTED INDEX, THEN "ENDED", HOWEVER OFTEN ONE STEPS ON
 pub steps-lines : (full : ℕ) → 2 ≤ full → full < 2 ^ 24 → (n lines : ℕ) (ds is : List ℕ) → accepted full n lines ds is ≡ true → (m : ℕ) → steps ds is (lines + m) (position 0 0 0) ≡ map gave (unpack ds is) ++ replicate m at-end
 unfolding pack
@@ -151,8 +157,7 @@ steps-lines full two small n lines ds is a m =
     let ws = unpack ds is in
     let back = pack-unpack full two small n lines ds is a in
     let es : List Entry = entries full ws in
-    let ok = entries-accepted full two ws in
     let u = unpacked-entries full two ws in
     let len : lines + m ≡ length (unpacked es) + m = ap (λ (k : ℕ). k + m) (sym (accepted-lines full two small n lines ds is a .1) ∙ sym (ap length u)) in
-    from-entry ds is es 0 0 m (lines + m) (accepts-sized full small es empty ok (accepts-counted full two es empty ok)) (omega arith) (sym (back .0)) (sym (back .1)) len
+    from-entry ds is es 0 0 m (lines + m) (entries-sized full two small ws) (omega arith) (sym (back .0)) (sym (back .1)) len
     ∙ ap (λ (l : List ℕ). map gave l ++ replicate m at-end) u

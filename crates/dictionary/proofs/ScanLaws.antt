@@ -1,26 +1,23 @@
 -- The program's pass over the words is acceptance. Assumes nothing.
-use Prim.Native.Nat.{ℕ, zero, suc, _+_, _-_, _*_, _/_, _%_, _^_, _<_, _≤_}
+use Prim.Native.Nat.{ℕ, zero, suc, _+_, _-_, _/_, _%_, _^_, _<_, _≤_}
 use mathlib.Core.Path.{_≡_, refl, sym, _∙_, ap}
-use mathlib.Core.List.{List, [], _∷_, _++_, map}
-use mathlib.Core.Bool.{Bool, true, false, cond, not, _&&_, _||_}
+use mathlib.Core.List.{List, [], _∷_, _++_}
+use mathlib.Core.Bool.{Bool, true, false, cond, not, _&&_, _||_, and-true, and-false, or-false, false≢true}
 use native.Mathlib.Omega.{arith}
-use native.Mathlib.Nat.{div-add-mod', mod-lt}
-use lib.Dec.{leb, ltb, eqb, lit≤, lit<}
-use lib.ListN.{length, getD, take, drop, replicate, length-append, length-replicate}
+use lib.Dec.{leb, eqb, lit≤, lit<}
+use lib.ListN.{length, getD, take, drop, length-append, length-replicate}
 use lib.Seq.{length-take-le, getD-take}
-use borrow.Author.Tests.{eqb-true, eqb-false, ne-eqb, eq-eqb, leb-true, leb-false, le-leb, lt-leb, lt-ltb, le-ltb}
-use Rattle.words.specs.Lists.{joined, every}
-use Rattle.dictionary.specs.Dictionary.{Entry, plain, repeat, kept, fit, accepted, largest, count-of, repeated}
-use Rattle.dictionary.specs.Entries.{uses}
-use Rattle.dictionary.specs.declared.accepting.Past.{Past}
+use borrow.Author.Tests.{eqb-true, eqb-false, ne-eqb, eq-eqb, leb-true, leb-false, le-leb, lt-ltb, le-ltb}
+use Rattle.words.specs.Lists.{every}
+use Rattle.dictionary.specs.Dictionary.{Entry, plain, repeat, fit, accepted, largest}
 use Rattle.dictionary.specs.declared.accepting.Past.the-variants.{Start, Short, FullRun, Other}
 use Rattle.dictionary.specs.declared.accepting.Before.{Before}
-use Rattle.dictionary.specs.Scan.{preceding, opens, goes-on as runs-on, follows, neighbours, good-plain, good-repeat, good-entry, past-after, after-entry, scan}
+use Rattle.dictionary.specs.Scan.{preceding, opens, goes-on as runs-on, follows, neighbours, good-plain, good-repeat, past-after, scan}
 use Rattle.dictionary.proofs.Stream.{lines-of, unpacked, State, empty, single, many, over}
-use Rattle.dictionary.proofs.Accept.{differs, leaves, goes-on, Reading, at, on, bad, read-first, read-word, read, may-repeat, good, state-of, accepts}
+use Rattle.dictionary.proofs.Accept.{differs, leaves, goes-on, Reading, at, on, bad, read-first, read, may-repeat, good, state-of, accepts}
 use Rattle.dictionary.proofs.AcceptLaws.{read-bad}
 use Rattle.dictionary.proofs.Parse.{Parsed, parsed, broken, before, next-repeat, next-entry, parse, sound, is-index}
-use Rattle.dictionary.proofs.ParseLaws.{parse-words, counted, accepts-counted, every-kept}
+use Rattle.dictionary.proofs.ParseLaws.{parse-words, accepts-counted, every-kept}
 use Rattle.dictionary.proofs.IndexLaws.{accepted-one-pass}
 
 two : 2 ≤ largest
@@ -37,21 +34,13 @@ before-of (single o x) = preceding (cond (eqb (suc (length o)) largest) Other Sh
 before-of (many c x) = preceding (cond (eqb c largest) FullRun Other) x
 before-of (over x) = preceding Other x
 
-and-true : (a : Bool) → (a && true) ≡ a
-and-true true = refl
-and-true false = refl
-
-and-no : (a : Bool) → (a && false) ≡ false
-and-no true = refl
-and-no false = refl
-
 opens-is : (s : State) (w : ℕ) → opens (before-of s .past) (before-of s .last) w ≡ (differs s w && leaves largest s)
 opens-is empty w = refl
 opens-is (single o x) w = go (eqb (suc (length o)) largest)
   where
     go : (f : Bool) → opens (cond f Other Short) x w ≡ (not (eqb x w) && f)
     go true = sym (and-true (not (eqb x w)))
-    go false = sym (and-no (not (eqb x w)))
+    go false = sym (and-false (not (eqb x w)))
 opens-is (many c x) w = go (eqb c largest)
   where
     go : (f : Bool) → opens (cond f FullRun Other) x w ≡ (not (eqb x w) && true)
@@ -75,16 +64,11 @@ runs-on-is (over x) w = refl
 
 follows-is : (s : State) (w : ℕ) → follows (before-of s .past) (before-of s .last) w ≡ (differs s w || goes-on largest s w)
 follows-is empty w = refl
-follows-is (single o x) w = go (eqb (suc (length o)) largest) (eqb x w)
+follows-is (single o x) w = go (eqb (suc (length o)) largest)
   where
-    go : (f b : Bool) → follows (cond f Other Short) x w ≡ (not (eqb x w) || false)
-    go f b = either f (eqb x w) refl
-      where
-        either : (f b : Bool) → eqb x w ≡ b → follows (cond f Other Short) x w ≡ (not (eqb x w) || false)
-        either true true e = rw e
-        either true false e = rw e
-        either false true e = rw e
-        either false false e = rw e
+    go : (f : Bool) → follows (cond f Other Short) x w ≡ (not (eqb x w) || false)
+    go true = sym (or-false (not (eqb x w)))
+    go false = sym (or-false (not (eqb x w)))
 follows-is (many c x) w = go (eqb c largest) (eqb x w) refl
   where
     go : (f b : Bool) → eqb x w ≡ b → follows (cond f FullRun Other) x w ≡ (not (eqb x w) || (f && eqb x w))
@@ -92,11 +76,7 @@ follows-is (many c x) w = go (eqb c largest) (eqb x w) refl
     go true false e = rw e
     go false true e = rw e
     go false false e = rw e
-follows-is (over x) w = go (eqb x w) refl
-  where
-    go : (b : Bool) → eqb x w ≡ b → not (eqb x w) ≡ (not (eqb x w) || false)
-    go true e = rw e
-    go false e = rw e
+follows-is (over x) w = sym (or-false (not (eqb x w)))
 
 -- ---- a plain entry
 
@@ -131,9 +111,6 @@ record Reads (s : State) (ws : List ℕ) : Type 0 where
   finds : good-plain (before-of s) ws ≡ good (read largest (at s) ws)
   leads : good (read largest (at s) ws) ≡ true → before-of (state-of (read largest (at s) ws)) ≡ preceding (past-after false (eqb (length ws) largest) (opens (before-of s .past) (before-of s .last) (getD ws 0 0))) (getD ws (length ws - 1) 0)
 
-no : {X : Type 0} → false ≡ true → X
-no e = let z : _≡_ {A = ℕ} 0 1 = cc in absurd (omega arith)
-
 some-left : (vs : List ℕ) → eqb (suc (length vs)) 0 ≡ false
 some-left vs = ne-eqb (suc (length vs)) 0 (λ e. omega arith)
 
@@ -143,7 +120,7 @@ over-read w (v ∷ vs) = rw (some-left vs) (read-bad largest vs)
 
 last-none : (w : ℕ) (vs : List ℕ) → eqb (length vs) 0 ≡ true → last-of w vs ≡ w
 last-none w [] e = refl
-last-none w (v ∷ vs) e = no (sym (some-left vs) ∙ e)
+last-none w (v ∷ vs) e = absurd (false≢true (sym (some-left vs) ∙ e))
 
 -- where reading leads, by the tests: the entry opens, the run goes on, neighbours differ, nothing comes after
 abbrev led : ℕ → List ℕ → Bool → Bool → Bool → Bool → Reading
@@ -185,13 +162,13 @@ module _ (s : State) (w : ℕ) (ws : List ℕ) (h : suc (length ws) ≤ largest)
     where
       go : (a b n z : Bool) → eqb (length ws) 0 ≡ z → good (led w ws a b n z) ≡ true → before-of (state-of (led w ws a b n z)) ≡ preceding (past-after false (eqb (suc (length ws)) largest) a) (last-of w ws)
       go true b true z t e = let q : 1 + length ws ≡ suc (length ws) = omega arith in before-end ws [] w ∙ ap (λ (n : ℕ). preceding (cond (eqb n largest) Other Short) (last-of w ws)) q
-      go true b false z t e = no e
+      go true b false z t e = absurd (false≢true e)
       go false true n true t e = ap (λ (x : ℕ). preceding Other x) (sym (last-none w ws t))
-      go false true n false t e = no e
-      go false false n z t e = no e
+      go false true n false t e = absurd (false≢true e)
+      go false false n z t e = absurd (false≢true e)
 
 reads : (s : State) (ws : List ℕ) → length ws ≤ largest → Reads s ws
-reads s [] h = record { finds = refl; leads = λ e. no e }
+reads s [] h = record { finds = refl; leads = λ e. absurd (false≢true e) }
 reads s (w ∷ ws) h = record { finds = finds-one s w ws h; leads = leads-one s w ws h }
 
 -- ---- one entry, then the others
@@ -235,7 +212,7 @@ meet true false found there y e k = rw e
 meet false g found there y e k = refl
 
 leads-to : (c : ℕ) (is : List ℕ) (s : State) → c ≤ length is → c ≤ largest → good (read largest (at s) (take c is)) ≡ true → preceding (past-after false (eqb c largest) (opens (before-of s .past) (before-of s .last) (getD is 0 0))) (getD is (c - 1) 0) ≡ before-of (state-of (read largest (at s) (take c is)))
-leads-to zero is s h k e = no e
+leads-to zero is s h k e = absurd (false≢true e)
 leads-to (suc c) is s h k e =
     let n : length (take (suc c) is) ≡ suc c = length-take-le (suc c) is h in
     let f : getD (take (suc c) is) 0 0 ≡ getD is 0 0 = getD-take (suc c) is 0 0 (omega arith) in
@@ -301,12 +278,12 @@ scan-accepts n lines ds is = sym (accepted-one-pass largest two small n lines ds
     same-fit es t e = every-kept largest (fit n) es (accepts-counted largest two es empty e) ∙ ap (every (fit n)) (parse-words ds is es t .of-imps)
 
     go : (q : Parsed) → parse ds is ≡ q → sound largest n lines q ≡ (every (fit n) is && sound-from empty lines q)
-    go broken t = sym (and-no (every (fit n) is))
+    go broken t = sym (and-false (every (fit n) is))
     go (parsed es) t = pick (accepts largest empty es) refl
       where
         pick : (a : Bool) → accepts largest empty es ≡ a → (accepts largest empty es && (every (fit n) (unpacked es) && eqb (length (unpacked es)) lines)) ≡ (every (fit n) is && (accepts largest empty es && eqb (length (unpacked es)) lines))
         pick true e = rw (e, same-fit es t e)
-        pick false e = rw e (sym (and-no (every (fit n) is)))
+        pick false e = rw e (sym (and-false (every (fit n) is)))
 
     same-index : is-index largest n lines ds is ≡ (every (fit n) is && scan ds is (preceding Start 0) lines)
     same-index = go (parse ds is) refl ∙ ap (λ (t : Bool). every (fit n) is && t) (sym (scan-parse ds is empty lines))

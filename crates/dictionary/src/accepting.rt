@@ -1,10 +1,8 @@
 // Which words are an index: one pass over the dictionary, entry by entry.
 ghost use mathlib.Core.Path.{_≡_};
-ghost use Prim.Native.Nat.{_+_, _-_, _<_, _≤_};
-ghost use mathlib.Core.Bool.{Bool};
-ghost use lib.Dec.{eqb};
+ghost use Prim.Native.Nat.{_-_, _<_, _≤_};
 ghost use lib.ListN.{length, getD, take, drop};
-ghost use Rattle.dictionary.specs.Dictionary.{largest, count-of, repeated, accepted};
+ghost use Rattle.dictionary.specs.Dictionary.{largest, accepted};
 ghost use Rattle.dictionary.specs.Entries.{uses};
 ghost use Rattle.dictionary.specs.Scan.{preceding, opens, goes-on, follows, neighbours, good-plain, good-repeat, good-entry, past-after, after-entry, scan};
 

@@ -6,11 +6,9 @@ pub mod packing; // packing.rt: packing, one imprint at a time
 pub mod unpacking; // unpacking.rt: the lines that the words stand for
 
 ghost use mathlib.Core.Path.{_≡_};
-ghost use Prim.Native.Nat.{suc, _+_, _^_, _<_, _≤_};
-ghost use mathlib.Core.Bool.{Bool};
-ghost use lib.Dec.{ltb, eqb};
-ghost use lib.ListN.{length, getD};
-ghost use Rattle.dictionary.specs.Dictionary.{count-of, repeated, largest};
+ghost use Prim.Native.Nat.{suc, _+_, _^_, _<_};
+ghost use lib.Dec.{eqb};
+ghost use Rattle.dictionary.specs.Dictionary.{count-of, repeated};
 ghost use Rattle.dictionary.specs.Position.{position, onward, in-entry, step};
 
 // Where a reader of lines stands: an entry of the dictionary, a place in that entry, and the number of an imprint.

@@ -1,14 +1,13 @@
 // The lines that the words of a dictionary and its imprints stand for, entry by entry.
 ghost use mathlib.Core.Path.{_≡_};
-ghost use Prim.Native.Nat.{_+_, _-_, _<_, _≤_, min};
-ghost use mathlib.Core.Bool.{cond};
+ghost use Prim.Native.Nat.{_+_, _<_, _≤_, min};
 ghost use lib.ListN.{length, getD, take, drop, replicate};
 ghost use lib.Seq.{sets};
-ghost use Rattle.dictionary.specs.Dictionary.{count-of, repeated, unpack};
+ghost use Rattle.dictionary.specs.Dictionary.{unpack};
 ghost use Rattle.dictionary.specs.Entries.{uses, lines-in};
 
 // How many imprints are kept for an entry.
-pub fn used(d: u32) -> usize
+pub(crate) fn used(d: u32) -> usize
     ensures { λ r. ⌜ r ≡ uses d ⌝ }
 {
     if crate::is_repeat(d) {
@@ -19,7 +18,7 @@ pub fn used(d: u32) -> usize
 }
 
 // The imprints from a place on.
-pub fn rest_of(imprints: &[u64], from: usize) -> &[u64]
+pub(crate) fn rest_of(imprints: &[u64], from: usize) -> &[u64]
     requires { ⌜ from ≤ length (now imprints) ⌝ }
     ensures { λ r. ⌜ now r ≡ drop from (now (imprints .entry)) ⌝ }
 {

@@ -1,5 +1,4 @@
 -- A step: each way cites its law. Assumes nothing.
-use native.Mathlib.Omega.{arith}
 use lib.Arith.{lt-of-le-ne}
 use denote.Ref.{now}
 use Rattle.dictionary.proofs.StepLaws.{ended, entry-wrong, entry-step}

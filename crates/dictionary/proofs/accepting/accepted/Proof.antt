@@ -1,6 +1,6 @@
 -- The two tests are acceptance. Assumes nothing.
-use mathlib.Core.Path.{_≡_, sym, _∙_, ap}
-use mathlib.Core.Bool.{Bool, true, false, _&&_}
+use mathlib.Core.Path.{sym, _∙_, ap}
+use mathlib.Core.Bool.{Bool, _&&_}
 use denote.Ref.{now}
 use Rattle.dictionary.specs.declared.accepting.Past.the-variants.{Start}
 use Rattle.dictionary.specs.Scan.{preceding, scan}

@@ -1,14 +1,4 @@
 -- What the entry is to the next one. Assumes nothing.
-use Prim.Native.Nat.{ℕ, _-_}
-use mathlib.Core.Path.{_≡_, sym, _∙_, ap}
-use mathlib.Core.Bool.{Bool}
-use native.Mathlib.Omega.{arith}
-use lib.Dec.{eqb}
-use lib.ListN.{getD}
-use denote.Ref.{now}
-use Rattle.dictionary.specs.declared.accepting.Past.{Past}
-use Rattle.dictionary.specs.Dictionary.{largest}
-use Rattle.dictionary.specs.Scan.{preceding, past-after}
 use borrow.Author.Needs.{needs}
 use Rattle.dictionary.proofs.accepting.after.Statement.{statement}
 use Rattle.dictionary.proofs.accepting.after.Tie as tie

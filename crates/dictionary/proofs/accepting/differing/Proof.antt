@@ -1,9 +1,8 @@
 -- The loop keeps that all neighbours differ exactly when those from place k on do. Assumes nothing.
-use Prim.Native.Nat.{ℕ, _≤_, _<_, _+_, _-_}
+use Prim.Native.Nat.{_≤_, _-_}
 use mathlib.Core.Path.{_≡_, refl, sym, _∙_}
 use native.Mathlib.Omega.{arith}
-use lib.ListN.{length, getD, take, drop}
-use borrow.Author.Needs.{needs}
+use lib.ListN.{getD, take, drop}
 use denote.Ref.{now}
 use Rattle.dictionary.specs.Scan.{neighbours}
 use Rattle.dictionary.proofs.GoodLaws.{equal-next, other-next, no-next}

@@ -1,6 +1,5 @@
 -- A plain entry, by the tests. Assumes nothing.
 use mathlib.Core.Path.{sym, _∙_}
-use native.Mathlib.Omega.{arith}
 use denote.Ref.{now}
 use Rattle.dictionary.proofs.GoodLaws.{plain-opens, plain-goes-on, plain-neither}
 use borrow.Author.Needs.{needs}

@@ -1,15 +1,14 @@
 -- The loop keeps `Scanning`. Assumes nothing.
-use Prim.Native.Nat.{ℕ, _≤_, _<_, _+_, _-_}
+use Prim.Native.Nat.{ℕ, _-_}
 use mathlib.Core.Path.{_≡_, sym, _∙_, ap}
 use mathlib.Core.List.{List}
-use mathlib.Core.Bool.{Bool, true, false}
+use mathlib.Core.Bool.{true}
 use native.Mathlib.Omega.{arith}
 use lib.ListN.{length, drop, getD, length-drop}
 use borrow.Author.Needs.{needs}
 use borrow.Author.Tests.{not-true, not-false}
 use denote.Ref.{now}
 use Rattle.dictionary.specs.Dictionary.{count-of}
-use Rattle.dictionary.specs.Entries.{uses}
 use Rattle.dictionary.specs.Scan.{good-entry, after-entry}
 use Rattle.dictionary.proofs.GoodLaws.{Fits, good-fits, Scanning, scanning-starts, scanning-refuses, scanning-turns, scanning-unused, scanning-ends}
 use Rattle.dictionary.proofs.accepting.scanned.Statement.{statement}

@@ -1,14 +1,12 @@
 -- The loop keeps `Measuring` over the imprints from place i on. Assumes nothing.
-use Prim.Native.Nat.{ℕ, _≤_, _<_, _+_, _-_}
-use mathlib.Core.Path.{_≡_, sym, _∙_, ap}
-use mathlib.Core.List.{[]}
+use Prim.Native.Nat.{_≤_, _+_, _-_}
+use mathlib.Core.Path.{_∙_}
 use native.Mathlib.Omega.{arith}
 use lib.ListN.{length, drop, getD}
 use borrow.Author.Needs.{needs}
 use denote.Ref.{now}
-use Rattle.dictionary.specs.declared.packing.Packer.{Packer}
 use Rattle.dictionary.specs.Dictionary.{largest}
-use Rattle.dictionary.specs.Packer.{packer, fresh, after, move-on}
+use Rattle.dictionary.specs.Packer.{packer, after, move-on}
 use Rattle.dictionary.proofs.PackLoops.{Measuring, measuring-starts, measuring-next, measuring-ends, words-within, kept-within, dict-short, imps-short}
 use Rattle.dictionary.proofs.packing.measured.Statement.{statement}
 use Rattle.dictionary.proofs.packing.measured.Tie as tie

@@ -1,5 +1,4 @@
 -- The settled word goes to its place. Assumes nothing.
-use mathlib.Core.Path.{_≡_, refl}
 use native.Mathlib.Omega.{arith}
 use Rattle.dictionary.proofs.TurnLaws.{settles, one-word}
 use borrow.Author.Needs.{needs}

@@ -1,6 +1,6 @@
 -- One more imprint after a repeat entry: each way cites its test. Assumes nothing.
 use lib.Dec.{eqb}
-use mathlib.Core.Bool.{true, false}
+use mathlib.Core.Bool.{true}
 use Rattle.dictionary.specs.declared.packing.Open.the-variants.{Run}
 use Rattle.dictionary.specs.Dictionary.{largest}
 use Rattle.dictionary.proofs.TurnLaws.{same-last, other-last, is-full, not-full}

@@ -1,15 +1,13 @@
 -- The loop keeps `Writing` over the imprints from place i on. Assumes nothing.
-use Prim.Native.Nat.{ℕ, _≤_, _<_, _+_, _-_}
-use mathlib.Core.Path.{_≡_, sym, _∙_, ap}
-use mathlib.Core.List.{[]}
+use Prim.Native.Nat.{_≤_, _+_, _-_}
+use mathlib.Core.Path.{_∙_}
 use native.Mathlib.Omega.{arith}
 use lib.ListN.{length, drop, getD}
 use borrow.Author.Needs.{needs}
 use denote.Ref.{now}
-use Rattle.dictionary.specs.declared.packing.Packer.{Packer}
 use Rattle.dictionary.specs.Dictionary.{largest}
-use Rattle.dictionary.specs.Packer.{packer, fresh, after, move-on}
-use Rattle.dictionary.proofs.PackLoops.{Measuring, measuring-next, words-within, kept-within, Writing, writing-starts, writing-next, writing-ends}
+use Rattle.dictionary.specs.Packer.{packer, after, move-on}
+use Rattle.dictionary.proofs.PackLoops.{measuring-next, words-within, kept-within, Writing, writing-starts, writing-next, writing-ends}
 use Rattle.dictionary.proofs.packing.write.Statement.{statement}
 use Rattle.dictionary.proofs.packing.write.Tie as tie
 

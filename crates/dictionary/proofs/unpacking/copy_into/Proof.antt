@@ -1,8 +1,6 @@
 -- The loop keeps `Copying`. Assumes nothing.
-use Prim.Native.Nat.{ℕ, _≤_, _<_, _+_, _-_}
+use Prim.Native.Nat.{_-_}
 use native.Mathlib.Omega.{arith}
-use lib.ListN.{length}
-use borrow.Author.Needs.{needs}
 use denote.Ref.{now}
 use Rattle.dictionary.proofs.EntryLaws.{Copying, copying-starts, copying-turns, copying-ends}
 use Rattle.dictionary.proofs.unpacking.copy_into.Statement.{statement}

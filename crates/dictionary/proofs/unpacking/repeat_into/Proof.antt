@@ -1,9 +1,7 @@
 -- The loop keeps `Repeating`. Assumes nothing.
-use Prim.Native.Nat.{ℕ, _≤_, _<_, _+_, _-_}
+use Prim.Native.Nat.{_+_, _-_}
 use mathlib.Core.Path.{refl}
 use native.Mathlib.Omega.{arith}
-use lib.ListN.{length}
-use borrow.Author.Needs.{needs}
 use denote.Ref.{now}
 use Rattle.dictionary.proofs.EntryLaws.{Repeating, repeating-starts, repeating-turns, repeating-ends}
 use Rattle.dictionary.proofs.unpacking.repeat_into.Statement.{statement}

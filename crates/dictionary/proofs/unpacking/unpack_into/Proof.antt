@@ -1,13 +1,13 @@
 -- The loop keeps `Unpacking`. Assumes nothing.
-use Prim.Native.Nat.{ℕ, _≤_, _<_, _+_, _-_, min}
-use mathlib.Core.Path.{_≡_, sym, _∙_, ap, ap₂}
+use Prim.Native.Nat.{ℕ, _+_, _-_, min}
+use mathlib.Core.Path.{_≡_, _∙_, ap, ap₂}
 use mathlib.Core.List.{List}
 use native.Mathlib.Omega.{arith}
 use lib.ListN.{length, drop, getD}
 use lib.Seq.{sets}
 use borrow.Author.Needs.{needs}
 use denote.Ref.{now}
-use Rattle.dictionary.specs.Entries.{uses, lines-in}
+use Rattle.dictionary.specs.Entries.{lines-in}
 use Rattle.dictionary.proofs.EntryLaws.{Unpacking, unpacking-starts, unpacking-room, unpacking-turns, unpacking-ends}
 use Rattle.dictionary.proofs.unpacking.unpack_into.Statement.{statement}
 use Rattle.dictionary.proofs.unpacking.unpack_into.Tie as tie

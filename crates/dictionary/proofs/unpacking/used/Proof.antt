@@ -1,6 +1,5 @@
 -- How many imprints are kept for an entry, by its mark. Assumes nothing.
 use mathlib.Core.Path.{sym, _∙_}
-use native.Mathlib.Omega.{arith}
 use borrow.Author.Needs.{needs}
 use Rattle.dictionary.proofs.unpacking.used.Statement.{statement}
 use Rattle.dictionary.proofs.unpacking.used.Tie as tie

@@ -1,6 +1,6 @@
 -- The last word is written. Assumes nothing.
 use mathlib.Core.Path.{_∙_, ap}
-use Prim.Native.Nat.{ℕ, _+_}
+use Prim.Native.Nat.{ℕ}
 use lib.Seq.{sets}
 use denote.Ref.{now}
 use Rattle.dictionary.specs.Packer.{settled}

@@ -1,11 +1,6 @@
 -- One more imprint, measured. Assumes nothing.
-use mathlib.Core.Path.{_≡_, ap, _∙_, sym}
-use Prim.Native.Nat.{ℕ, _+_, _<_, _^_}
-use mathlib.Core.Bool.{Bool, cond}
-use lib.ListN.{length}
-use Rattle.dictionary.specs.declared.packing.Turn.{Turn}
 use Rattle.dictionary.specs.Dictionary.{largest}
-use Rattle.dictionary.specs.Packer.{settled, move-on, after}
+use Rattle.dictionary.specs.Packer.{move-on}
 use Rattle.dictionary.proofs.TurnLaws.{after-is}
 use borrow.Author.Needs.{needs}
 use Rattle.dictionary.proofs.packing.Packer.counted.Statement.{statement}

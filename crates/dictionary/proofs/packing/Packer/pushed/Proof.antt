@@ -1,14 +1,11 @@
 -- One more imprint: what it settles is written. Assumes nothing.
-use mathlib.Core.Path.{_≡_, ap, _∙_, sym}
-use Prim.Native.Nat.{ℕ, _+_, _<_, _^_}
-use mathlib.Core.Bool.{Bool, cond}
+use mathlib.Core.Path.{ap, _∙_}
 use native.Mathlib.Omega.{arith}
-use lib.ListN.{length}
 use lib.Seq.{sets}
 use denote.Ref.{now}
 use Rattle.dictionary.specs.declared.packing.Turn.{Turn}
 use Rattle.dictionary.specs.Dictionary.{largest}
-use Rattle.dictionary.specs.Packer.{settled, added, move-on, after}
+use Rattle.dictionary.specs.Packer.{settled, added, move-on}
 use Rattle.dictionary.proofs.TurnLaws.{after-is}
 use borrow.Author.Needs.{needs}
 use Rattle.dictionary.proofs.packing.Packer.pushed.Statement.{statement}

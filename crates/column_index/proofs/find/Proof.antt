@@ -1,0 +1,63 @@
+-- `column_index::find` meets its contract. Assumes nothing.
+use Prim.Native.Nat.{ℕ, _≤_, _<_, _+_}
+use mathlib.Core.Path.{_≡_, refl, sym, ap, _∙_}
+use mathlib.Core.List.{List}
+use native.Mathlib.Omega.{arith}
+use lib.ListN.{length}
+use Rattle.words.proofs.ListLaws.{sets-filled}
+use Rattle.bins.specs.Bins.{readings}
+use Rattle.dictionary.specs.Dictionary.{unpack}
+use Rattle.column_index.specs.Search.{Answer}
+use Rattle.column_index.specs.Runs.{asked-of, through, tally, plus}
+use Rattle.column_index.specs.declared.rows.Tally.{Tally}
+use Rattle.column_index.specs.declared.SearchAnswer.{SearchAnswer}
+use Rattle.column_index.specs.declared.SearchAnswer.the-variants as searching
+use Rattle.column_index.proofs.RunLaws.{plus-none}
+use Rattle.column_index.proofs.CallLaws.{room-short, room-done}
+use borrow.Author.Needs.{needs}
+use Rattle.column_index.proofs.find.Statement.{statement}
+use Rattle.column_index.proofs.find.Tie as tie
+use Rattle.column_index.proofs.find.Reads as reads
+use Rattle.column_index.proofs.find.Lts as lts
+use Rattle.column_index.proofs.listed.fill_all.Reads as fill-all-reads
+use Rattle.column_index.proofs.rows.count_all.Reads as count-all-reads
+
+-- src/lib.rt:103:9
+count-all-requires : tie.Need-count-all-requires
+count-all-requires c κs = search needs
+
+-- src/lib.rt:106:9
+-- the answer, and what was counted of it
+abbrev all : tie.Start → Answer
+all s = through readings (asked-of (s .args .ask)) (s .args .column .now) 0 (unpack (s .args .dictionary .now) (s .args .imprints .now))
+
+counts : (c : tie.After-count-all) → c .count-all .result ≡ tally (length (all (c .before .before .before .before) .ids)) (all (c .before .before .before .before) .skips) (all (c .before .before .before .before) .wholes) (all (c .before .before .before .before) .compares)
+counts c = c .count-all .ensures ∙ plus-none (all (c .before .before .before .before))
+
+rows-counted : (c : tie.After-count-all) → c .count-all .result .rows ≡ length (all (c .before .before .before .before) .ids)
+rows-counted c = ap (λ (t : Tally). t .rows) (counts c)
+
+returns : tie.Need-returns
+returns c =
+    let a = all (c .before .before .before .before .before) in
+    let n = rows-counted (c .before) in
+    (ap searching.Short n ∙ room-short a (length (c .before .before .before .before .before .args .rows .now)) (omega (arith, n, c .if1 .taken)), refl)
+
+-- src/lib.rt:108:5
+fill-all-requires : tie.Need-fill-all-requires
+fill-all-requires c κs = let s = c .before .before .before .before .before .before in (s .pre .0, s .pre .1, s .pre .2, omega (arith, rows-counted (c .before .before), c .before .if1 .left))
+
+-- src/lib.rt:99:1
+same-length : tie.Need-same-length
+same-length c = search needs
+
+-- src/lib.rt:99:1
+returns-2 : tie.Need-returns-2
+returns-2 c =
+    let s = c .before .before .before .before .before .before .before .before .before in
+    let a = all s in
+    let l : length (a .ids) ≤ length (s .args .rows .now) = omega (arith, rows-counted (c .before .before .before .before .before), c .before .before .before .before .if1 .left) in
+    (ap (λ (t : Tally). searching.Done (t .rows) (t .skipped) (t .whole) (t .compared)) (counts (c .before .before .before .before .before)) ∙ room-done a (length (s .args .rows .now)) l, c .before .before .fill-all .ensures ∙ sets-filled (a .ids) (s .args .rows .now) l)
+
+pub find-spec : {M : Type 1} → statement M
+find-spec = tie.close (tie.spec count-all-requires returns fill-all-requires same-length returns-2)
