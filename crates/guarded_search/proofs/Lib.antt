@@ -1,3 +1,6 @@
 pub mod ExampleLaws
 pub mod GapLaws
 pub mod Bounds
+pub mod GuardLaws
+pub mod Only
+pub mod TurnLaws

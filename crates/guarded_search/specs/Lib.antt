@@ -1,3 +1,5 @@
 pub mod Guarded
+pub mod Promise
 pub mod Gaps
+pub mod Searching
 pub mod Examples

@@ -7,3 +7,21 @@ pub enum Outcome {
     Learnt,
     NotLearnt,
 }
+
+// What a search with both answers: what became of it, how many rows it listed, lines skipped, lines whole and values compared; or why not.
+pub enum GuardAnswer {
+    Done {
+        outcome: Outcome,
+        rows: usize,
+        skipped: usize,
+        whole: usize,
+        compared: usize,
+    },
+    NoFilter,
+    NoKey,
+    LowAboveHigh,
+    TooLong,
+    BadBorders,
+    NoIndex,
+    Short(usize),
+}

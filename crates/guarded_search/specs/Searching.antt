@@ -1,0 +1,75 @@
+-- Demand 3: a list of searches with both over one column and index, each from the filter words that the one before left; and what is counted of their answers. Assumes nothing.
+use Prim.Native.Nat.{ℕ, zero, suc, _+_}
+use mathlib.Core.List.{List, [], _∷_}
+use mathlib.Core.Bool.{Bool, true, false, cond, not, _&&_}
+use lib.IntN.{ℤ}
+use Rattle.words.specs.Lists.{has}
+use Rattle.guarded_search.specs.Guarded.{gap-low}
+use Rattle.guarded_search.specs.Promise.{Guards}
+use Rattle.guarded_search.specs.declared.Outcome.{Outcome}
+use Rattle.guarded_search.specs.declared.Outcome.the-variants.{Denied, Found, Learnt, NotLearnt}
+use Rattle.guarded_search.specs.declared.GuardAnswer.{GuardAnswer}
+use Rattle.guarded_search.specs.declared.GuardAnswer.the-variants as guard
+
+-- one search: the range asked, the row space lent, what it answered, and filter words and row space afterwards
+pub record Turn : Type 0 where
+  pub low : ℕ
+  pub high : ℕ
+  pub space : List ℕ
+  pub answer : GuardAnswer
+  pub words : List ℕ
+  pub rows : List ℕ
+
+-- each search by its promise, any range, any row space, refused ones among them; the first finds the words w, each other those that the one before left
+abbrev pub Searching : List ℤ → List ℤ → List ℕ → List ℕ → List ℕ → List Turn → Type 0
+Searching col bs is ds w [] = Unit {0}
+Searching col bs is ds w (t ∷ ts) = Guards w col bs is ds (t .low) (t .high) (t .space) (t .answer) (t .words) (t .rows) × Searching col bs is ds (t .words) ts
+
+-- the answer is "empty and learnt"
+abbrev pub learns : Outcome → Bool
+learns Denied = false
+learns Found = false
+learns Learnt = true
+learns NotLearnt = false
+
+abbrev pub says-learnt : GuardAnswer → Bool
+says-learnt (guard.Done o n s w c) = learns o
+says-learnt guard.NoFilter = false
+says-learnt guard.NoKey = false
+says-learnt guard.LowAboveHigh = false
+says-learnt guard.TooLong = false
+says-learnt guard.BadBorders = false
+says-learnt guard.NoIndex = false
+says-learnt (guard.Short n) = false
+
+-- the answer is "empty and not learnt"
+abbrev pub wastes : Outcome → Bool
+wastes Denied = false
+wastes Found = false
+wastes Learnt = false
+wastes NotLearnt = true
+
+abbrev pub says-not-learnt : GuardAnswer → Bool
+says-not-learnt (guard.Done o n s w c) = wastes o
+says-not-learnt guard.NoFilter = false
+says-not-learnt guard.NoKey = false
+says-not-learnt guard.LowAboveHigh = false
+says-not-learnt guard.TooLong = false
+says-not-learnt guard.BadBorders = false
+says-not-learnt guard.NoIndex = false
+says-not-learnt (guard.Short n) = false
+
+-- how many of the answers are such
+abbrev pub how-many : (GuardAnswer → Bool) → List Turn → ℕ
+how-many f [] = 0
+how-many f (t ∷ ts) = how-many f ts + cond (f (t .answer)) 1 0
+
+-- the gaps around the ranges of the searches that learnt, each by its first key; xs are the keys of the column
+abbrev pub learnt-gaps : List ℕ → List Turn → List ℕ
+learnt-gaps xs [] = []
+learnt-gaps xs (t ∷ ts) = let more = learnt-gaps xs ts in cond (says-learnt (t .answer)) (gap-low (t .low) xs ∷ more) more
+
+-- no number comes twice
+abbrev pub all-different : List ℕ → Bool
+all-different [] = true
+all-different (x ∷ xs) = not (has x xs) && all-different xs
