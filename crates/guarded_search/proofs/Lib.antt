@@ -4,3 +4,4 @@ pub mod Bounds
 pub mod GuardLaws
 pub mod Only
 pub mod TurnLaws
+pub mod Bounded

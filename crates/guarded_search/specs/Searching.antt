@@ -1,10 +1,12 @@
 -- Demand 3: a list of searches with both over one column and index, each from the filter words that the one before left; and what is counted of their answers. Assumes nothing.
-use Prim.Native.Nat.{ℕ, zero, suc, _+_}
+use mathlib.Core.Path.{_≡_}
+use Prim.Native.Nat.{ℕ, _+_, _≤_}
 use mathlib.Core.List.{List, [], _∷_}
 use mathlib.Core.Bool.{Bool, true, false, cond, not, _&&_}
 use lib.IntN.{ℤ}
-use Rattle.words.specs.Lists.{has}
+use Rattle.words.specs.Lists.{has, every}
 use Rattle.guarded_search.specs.Guarded.{gap-low}
+use Rattle.guarded_search.specs.Gaps.{gap-start}
 use Rattle.guarded_search.specs.Promise.{Guards}
 use Rattle.guarded_search.specs.declared.Outcome.{Outcome}
 use Rattle.guarded_search.specs.declared.Outcome.the-variants.{Denied, Found, Learnt, NotLearnt}
@@ -73,3 +75,11 @@ learnt-gaps xs (t ∷ ts) = let more = learnt-gaps xs ts in cond (says-learnt (t
 abbrev pub all-different : List ℕ → Bool
 all-different [] = true
 all-different (x ∷ xs) = not (has x xs) && all-different xs
+
+-- THE BOUND ON WASTED LOOKS, over the keys xs of the column, n of them different: none answers "empty and not learnt"; at most n + 1 answer "empty and learnt", each
+-- for a gap of its own between neighbouring keys or at an end
+pub record Few-wasted (xs : List ℕ) (n : ℕ) (ts : List Turn) : Type 0 where
+  pub none-unlearnt : how-many says-not-learnt ts ≡ 0
+  pub at-most : how-many says-learnt ts ≤ n + 1
+  pub of-gaps : every (gap-start xs) (learnt-gaps xs ts) ≡ true
+  pub no-gap-twice : all-different (learnt-gaps xs ts) ≡ true
