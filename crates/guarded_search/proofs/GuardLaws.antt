@@ -50,6 +50,17 @@ module _ (col bs : List ℤ) (is ds : List ℕ) (lo hi space : ℕ) (m : Memory)
       go [] = refl
       go (x ∷ xs) = refl
 
+  -- denied: all keys of the range are in D
+  pub outcome-denied : guarded readings m bs ds is col lo hi .outcome ≡ Denied → allIn (m .set) lo hi ≡ true
+  outcome-denied e = go (allIn (m .set) lo hi) (some-in lo hi column-keys) (tooMany with-gap) (listed .ids) (ap (λ (s : Result). s .outcome) (sym is-by-tests) ∙ e)
+    where
+      go : (d h t : Bool) (ids : List ℕ) → by-tests d h t ids .outcome ≡ Denied → d ≡ true
+      go true h t ids e = refl
+      go false true t [] e = absurd (let z : _≡_ {A = ℕ} 0 1 = cc in omega arith)
+      go false false true [] e = absurd (let z : _≡_ {A = ℕ} 0 1 = cc in omega arith)
+      go false false false [] e = absurd (let z : _≡_ {A = ℕ} 0 1 = cc in omega arith)
+      go false h t (x ∷ xs) e = absurd (let z : _≡_ {A = ℕ} 0 1 = cc in omega arith)
+
   -- the range is one of keys, and the filter said look
   pub record Looked : Type 0 where
     pub key : hi < 2 ^ m .levels

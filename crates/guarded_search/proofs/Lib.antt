@@ -5,3 +5,4 @@ pub mod GuardLaws
 pub mod Only
 pub mod TurnLaws
 pub mod Bounded
+pub mod Sound

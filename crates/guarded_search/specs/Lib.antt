@@ -2,4 +2,5 @@ pub mod Guarded
 pub mod Promise
 pub mod Gaps
 pub mod Searching
+pub mod History
 pub mod Examples
