@@ -6,3 +6,4 @@ pub mod Only
 pub mod TurnLaws
 pub mod Bounded
 pub mod Sound
+pub mod Demands
