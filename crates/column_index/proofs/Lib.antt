@@ -6,3 +6,6 @@ pub mod RunLaws
 pub mod EntryLaws
 pub mod FillLaws
 pub mod CallLaws
+pub mod AnswerLaws
+pub mod ColumnLaws
+pub mod MadeLaws

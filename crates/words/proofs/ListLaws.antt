@@ -186,3 +186,10 @@ sets-append (x ∷ xs) ys l i =
 -- the part of a slice from place i on
 pub part-from {ℓ} : {A : Type ℓ} (l : List A) (i : ℕ) → take (length l - i) (drop i l) ≡ drop i l
 part-from l i = take-all (length l - i) (drop i l) (omega (arith, length-drop i l))
+
+-- a space written from end to end
+pub sets-whole {ℓ} : {A : Type ℓ} (xs l : List A) → length l ≡ length xs → sets l 0 xs ≡ xs
+sets-whole {A = A} xs l e =
+    sets-filled xs l (omega arith)
+    ∙ ap (λ (m : List A). xs ++ m) (drop-of-length-le l {i = length xs} (omega arith))
+    ∙ append-nil xs
