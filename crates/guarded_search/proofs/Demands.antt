@@ -38,13 +38,14 @@ use Rattle.range_filter.proofs.Keeps.{made-filter}
 use Rattle.range_filter.proofs.Only.{fresh-refused, learn-refused, arrive-refused, forget-refused}
 use Rattle.guarded_search.specs.Guarded.{keys}
 use Rattle.guarded_search.specs.Promise.{guard-number, Guards}
-use Rattle.guarded_search.specs.Searching.{Turn, Searching, Few-wasted}
+use Rattle.guarded_search.specs.Searching.{Turn, Searching, Few-wasted, All-exact}
 use Rattle.guarded_search.specs.History.{History}
 use Rattle.guarded_search.specs.declared.Outcome.the-variants.{Denied}
 use Rattle.guarded_search.specs.declared.GuardAnswer.{GuardAnswer}
 use Rattle.guarded_search.specs.declared.GuardAnswer.the-variants as guard
 use Rattle.guarded_search.proofs.Bounds.{fresh-calm, unlearnt, at-first}
 use Rattle.guarded_search.proofs.Bounded.{State, bounded}
+use Rattle.guarded_search.proofs.Exact.{exact}
 use Rattle.guarded_search.proofs.Only.{guards-refused}
 use Rattle.guarded_search.proofs.Sound.{denied-empty, search-denied-empty}
 
@@ -148,6 +149,17 @@ pub demand-2-rows :
     take n rows′ ≡ scan readings low high 0 col
 demand-2-rows {n = n} {s} {w} {c} kind p q = searched-front n s w c q ∙ own-scan kind (build-own p) _ _
 
+-- and so does every search with both that is done, denied ones among them, in any list of searches over an unchanged column, from a fresh filter of any room
+pub demand-2-exact :
+    {col bs bs′ : List ℤ} {is ds is′ ds′ w w′ : List ℕ} {b i d k room : ℕ} {r : Made} (ts : List Turn) →
+    InKind readings col →
+    Builds col bs is ds (build.Done b i d) bs′ is′ ds′ →
+    Fresh k room w r w′ →
+    madeNumber r ≡ 0 →
+    Searching col (take b bs′) (take i is′) (take d ds′) w′ ts →
+    All-exact col ts
+demand-2-exact {col} {bs} {bs′} {is} {ds} {is′} {ds′} {w} {w′} {b} {i} {d} {k} {room} {r} ts kind p q z s = exact col (take b bs′) (take i is′) (take d ds′) (λ lo hi. own-scan kind (build-own p) (pos lo) (pos hi)) ts w′ (freshMemory k room) (made-filter q z) (fresh-calm k (keys k col)) s
+
 -- in every history, searches with both among its calls, a range that ask denies holds no sample present
 pub demand-2-denied : {w samples : List ℕ} (lo hi : ℕ) → History w samples → Ask w lo hi asked.Denied → NoneIn lo hi samples
 demand-2-denied lo hi h p = denied-empty lo hi h p
@@ -161,7 +173,7 @@ demand-2-search-denied lo hi n s e c h p = search-denied-empty lo hi n s e c h p
 -- An unchanged column; its own index, as build left it; a filter of k levels, as fresh left it, with room for at least k x n splits, where n is the number of different keys of the
 -- column; and any list of searches with both, each from the words that the one before left. Then wasted looks are few.
 pub demand-3 :
-    {col bs bs′ : List ℤ} {is ds is′ ds′ w w′ : List ℕ} {b i d k room : ℕ} {r : Made} {ts : List Turn} →
+    {col bs bs′ : List ℤ} {is ds is′ ds′ w w′ : List ℕ} {b i d k room : ℕ} {r : Made} (ts : List Turn) →
     InKind readings col →
     Builds col bs is ds (build.Done b i d) bs′ is′ ds′ →
     Fresh k room w r w′ →
@@ -169,7 +181,7 @@ pub demand-3 :
     k * different (2 ^ k) (keys k col) ≤ room →
     Searching col (take b bs′) (take i is′) (take d ds′) w′ ts →
     Few-wasted (keys k col) (different (2 ^ k) (keys k col)) ts
-demand-3 {col} {bs} {bs′} {is} {ds} {is′} {ds′} {w} {w′} {b} {i} {d} {k} {room} {r} {ts} kind p q z enough s =
+demand-3 {col} {bs} {bs′} {is} {ds} {is′} {ds′} {w} {w′} {b} {i} {d} {k} {room} {r} ts kind p q z enough s =
     let own = build-own p in
     let state : State col w′ (freshMemory k room) = record { filter = made-filter q z; calm = fresh-calm k (keys k col); enough = enough } in
     let x = bounded col (take b bs′) (take i is′) (take d ds′) (λ lo hi. own-scan kind own (pos lo) (pos hi)) ts w′ (freshMemory k room) state s in

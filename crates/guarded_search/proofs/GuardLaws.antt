@@ -1,6 +1,6 @@
 -- What an answer of the search with both says of its range, and of what the filter remembers afterwards. Assumes nothing.
 use mathlib.Core.Path.{_≡_, refl, sym, ap, subst, _∙_}
-use mathlib.Core.Bool.{Bool, true, false, cond, _&&_, _||_}
+use mathlib.Core.Bool.{Bool, true, false, cond, _&&_, _||_, and-eq-true-iff}
 use mathlib.Core.List.{List, [], _∷_}
 use Prim.Native.Nat.{ℕ, zero, suc, _+_, _-_, _^_, _≤_, _<_}
 use native.Mathlib.Omega.{arith}
@@ -8,7 +8,7 @@ use lib.Dec.{ltb, leb}
 use lib.IntN.{ℤ, pos, negsuc}
 use lib.ListN.{length}
 use lib.Signed.{leZ}
-use borrow.Author.Tests.{ltb-true, ltb-false, leb-false, le-ltb}
+use borrow.Author.Tests.{ltb-true, ltb-false, leb-true, leb-false, le-ltb}
 use Rattle.bins.specs.Bins.{Kind, readings}
 use Rattle.bins.specs.Masks.{matches}
 use Rattle.column_index.specs.Search.{Answer, nothing, search-by, scan}
@@ -38,11 +38,11 @@ module _ (col bs : List ℤ) (is ds : List ℕ) (lo hi space : ℕ) (m : Memory)
   with-gap = gap-learnt m lo hi (keys (m .levels) col)
 
   -- the result by its four tests
-  abbrev by-tests : Bool → Bool → Bool → List ℕ → Result
+  abbrev pub by-tests : Bool → Bool → Bool → List ℕ → Result
   by-tests d h t [] = cond d (result Denied nothing m) (cond (h || t) (result NotLearnt listed m) (result Learnt listed with-gap))
   by-tests d h t (x ∷ xs) = cond d (result Denied nothing m) (result Found listed m)
 
-  is-by-tests : guarded readings m bs ds is col lo hi ≡ by-tests (allIn (m .set) lo hi) (some-in lo hi column-keys) (tooMany with-gap) (listed .ids)
+  pub is-by-tests : guarded readings m bs ds is col lo hi ≡ by-tests (allIn (m .set) lo hi) (some-in lo hi column-keys) (tooMany with-gap) (listed .ids)
   unfolding guarded
   is-by-tests = go (listed .ids)
     where
@@ -60,6 +60,18 @@ module _ (col bs : List ℤ) (is ds : List ℕ) (lo hi space : ℕ) (m : Memory)
       go false false true [] e = absurd (let z : _≡_ {A = ℕ} 0 1 = cc in omega arith)
       go false false false [] e = absurd (let z : _≡_ {A = ℕ} 0 1 = cc in omega arith)
       go false h t (x ∷ xs) e = absurd (let z : _≡_ {A = ℕ} 0 1 = cc in omega arith)
+
+  -- what is listed
+  pub answer-ids : (d : Bool) → allIn (m .set) lo hi ≡ d → guarded readings m bs ds is col lo hi .answer .ids ≡ cond d [] (listed .ids)
+  answer-ids d e = ap (λ (s : Result). s .answer .ids) is-by-tests ∙ ap (λ (x : Bool). by-tests x (some-in lo hi column-keys) (tooMany with-gap) (listed .ids) .answer .ids) e ∙ go d (some-in lo hi column-keys) (tooMany with-gap) (listed .ids)
+    where
+      go : (d h t : Bool) (ids : List ℕ) → by-tests d h t ids .answer .ids ≡ cond d [] (listed .ids)
+      go true h t [] = refl
+      go true h t (x ∷ xs) = refl
+      go false true t [] = refl
+      go false false true [] = refl
+      go false false false [] = refl
+      go false h t (x ∷ xs) = refl
 
   -- the range is one of keys, and the filter said look
   pub record Looked : Type 0 where
@@ -113,6 +125,19 @@ module _ (col bs : List ℤ) (is ds : List ℕ) (lo hi space : ℕ) (m : Memory)
       go false true q c r = stays refl refl (λ e. absurd (omega arith))
       go false false q true r = stays refl refl (λ e. absurd (omega arith))
       go false false q false r = checked (leb-false (2 ^ m .levels) hi q) (ltb-false hi lo r) (checked-answer col bs is ds)
+
+-- and the other way round, for a range of keys
+pub none-scan : (k : Kind) (lo hi levels r : ℕ) (col : List ℤ) → hi < 2 ^ levels → some-in lo hi (keys levels col) ≡ false → scan k (pos lo) (pos hi) r col ≡ []
+unfolding matches
+none-scan k lo hi levels r [] l e = refl
+none-scan k lo hi levels r (negsuc n ∷ vs) l e = none-scan k lo hi levels (suc r) vs l e
+none-scan k lo hi levels r (pos n ∷ vs) l e = go (leb lo n && leb n hi) refl (ltb n (2 ^ levels)) refl e (none-scan k lo hi levels (suc r) vs l)
+  where
+    go : (t : Bool) → (leb lo n && leb n hi) ≡ t → (c : Bool) → ltb n (2 ^ levels) ≡ c → some-in lo hi (cond c (n ∷ keys levels vs) (keys levels vs)) ≡ false → (some-in lo hi (keys levels vs) ≡ false → scan k (pos lo) (pos hi) (suc r) vs ≡ []) → cond t (r ∷ scan k (pos lo) (pos hi) (suc r) vs) (scan k (pos lo) (pos hi) (suc r) vs) ≡ []
+    go true p true q e ih = absurd (not-both true refl (rw p at e))
+    go true p false q e ih = absurd (omega (arith, ltb-false n (2 ^ levels) q, leb-true n hi (and-eq-true-iff (leb lo n) (leb n hi) .0 p .1)))
+    go false p true q e ih = ih (rw p at e)
+    go false p false q e ih = ih e
 
 -- a plain scan that lists nothing leaves no key in the range
 pub scan-none : (k : Kind) (lo hi levels r : ℕ) (col : List ℤ) → scan k (pos lo) (pos hi) r col ≡ [] → some-in lo hi (keys levels col) ≡ false

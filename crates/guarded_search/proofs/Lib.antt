@@ -7,3 +7,6 @@ pub mod TurnLaws
 pub mod Bounded
 pub mod Sound
 pub mod Demands
+pub mod NarrowLaws
+pub mod Exact
+pub mod CallLaws

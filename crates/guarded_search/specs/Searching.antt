@@ -3,8 +3,11 @@ use mathlib.Core.Path.{_≡_}
 use Prim.Native.Nat.{ℕ, _+_, _≤_}
 use mathlib.Core.List.{List, [], _∷_}
 use mathlib.Core.Bool.{Bool, true, false, cond, not, _&&_}
-use lib.IntN.{ℤ}
+use lib.IntN.{ℤ, pos}
+use lib.ListN.{take}
 use Rattle.words.specs.Lists.{has, every}
+use Rattle.bins.specs.Bins.{readings}
+use Rattle.column_index.specs.Search.{scan}
 use Rattle.guarded_search.specs.Guarded.{gap-low}
 use Rattle.guarded_search.specs.Gaps.{gap-start}
 use Rattle.guarded_search.specs.Promise.{Guards}
@@ -83,3 +86,19 @@ pub record Few-wasted (xs : List ℕ) (n : ℕ) (ts : List Turn) : Type 0 where
   pub at-most : how-many says-learnt ts ≤ n + 1
   pub of-gaps : every (gap-start xs) (learnt-gaps xs ts) ≡ true
   pub no-gap-twice : all-different (learnt-gaps xs ts) ≡ true
+
+-- a search that is done lists the rows ids, at the front of the row space as it is afterwards
+abbrev pub Lists : List ℕ → List ℕ → GuardAnswer → Type 0
+Lists ids rows (guard.Done o n s w c) = take n rows ≡ ids
+Lists ids rows guard.NoFilter = Unit {0}
+Lists ids rows guard.NoKey = Unit {0}
+Lists ids rows guard.LowAboveHigh = Unit {0}
+Lists ids rows guard.TooLong = Unit {0}
+Lists ids rows guard.BadBorders = Unit {0}
+Lists ids rows guard.NoIndex = Unit {0}
+Lists ids rows (guard.Short n) = Unit {0}
+
+-- each search that is done, denied ones among them, lists exactly the rows that a plain scan lists
+abbrev pub All-exact : List ℤ → List Turn → Type 0
+All-exact col [] = Unit {0}
+All-exact col (t ∷ ts) = Lists (scan readings (pos (t .low)) (pos (t .high)) 0 col) (t .rows) (t .answer) × All-exact col ts
