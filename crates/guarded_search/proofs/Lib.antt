@@ -1,1 +1,12 @@
 pub mod ExampleLaws
+pub mod GapLaws
+pub mod Bounds
+pub mod GuardLaws
+pub mod Only
+pub mod TurnLaws
+pub mod Bounded
+pub mod Sound
+pub mod Demands
+pub mod NarrowLaws
+pub mod Exact
+pub mod CallLaws

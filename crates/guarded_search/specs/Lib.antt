@@ -1,2 +1,7 @@
 pub mod Guarded
+pub mod Promise
+pub mod Gaps
+pub mod Searching
+pub mod History
+pub mod Steps
 pub mod Examples

@@ -1,4 +1,20 @@
 // The search with both: the filter is asked first, and what a look finds empty it learns.
+use column_index::IndexCheck;
+use column_index::SearchAnswer;
+use range_filter::Asked;
+use range_filter::Key;
+use range_filter::Learnt;
+use range_filter::Reading;
+ghost use mathlib.Core.Path.{_≡_};
+ghost use Prim.Native.Nat.{_^_, _≤_, _<_, min, max};
+ghost use lib.IntN.{pos};
+ghost use lib.ListN.{length};
+ghost use mathlib.Core.List.{[], _∷_};
+ghost use Rattle.column_index.specs.Promise.{checked-answer};
+ghost use Rattle.guarded_search.specs.Promise.{of-index, Guards, outcome-number, guard-words, guard-listed, Hands};
+ghost use Rattle.guarded_search.specs.Steps.{narrow-key, narrow, narrow-all, widest, taught-outcome, Looks, Missed, Sought};
+ghost use Rattle.guarded_search.specs.declared.Outcome.the-variants.{Denied};
+ghost use Rattle.guarded_search.specs.declared.GuardAnswer.the-variants.{Done};
 
 // What became of a search with both. The last two are wasted looks.
 pub enum Outcome {
@@ -6,4 +22,358 @@ pub enum Outcome {
     Found,
     Learnt,
     NotLearnt,
+}
+
+// What a search with both answers: what became of it, how many rows it listed, lines skipped, lines whole and values compared; or why not.
+pub enum GuardAnswer {
+    Done {
+        outcome: Outcome,
+        rows: usize,
+        skipped: usize,
+        whole: usize,
+        compared: usize,
+    },
+    NoFilter,
+    NoKey,
+    LowAboveHigh,
+    TooLong,
+    BadBorders,
+    NoIndex,
+    Short(usize),
+}
+
+// A range of keys around the one that was asked, and whether a value of the column lies in that one.
+struct Gap {
+    pub low: u32,
+    pub high: u32,
+    pub hidden: bool,
+}
+
+// How many keys there are.
+fn span_of(levels: u32) -> u32
+    requires { ⌜ levels ≤ 20 ⌝ }
+    ensures { λ r. ⌜ r ≡ 2 ^ levels ⌝ }
+{
+    1u32 << levels
+}
+
+// A key as a value of the column.
+fn value_of(key: u32) -> i32
+    requires { ⌜ key < 2147483648 ⌝ }
+    ensures { λ r. ⌜ r ≡ pos key ⌝ }
+{
+    key as i32
+}
+
+fn greater(a: u32, b: u32) -> u32
+    ensures { λ r. ⌜ r ≡ max a b ⌝ }
+{
+    if a < b { b } else { a }
+}
+
+fn lesser(a: u32, b: u32) -> u32
+    ensures { λ r. ⌜ r ≡ min a b ⌝ }
+{
+    if a < b { a } else { b }
+}
+
+// The gap narrowed by a value that is no smaller than 0.
+fn narrowed_by(gap: Gap, x: u32, span: u32, lo: u32, hi: u32) -> Gap
+    ensures { λ r. ⌜ r ≡ narrow-key span lo hi gap x ⌝ }
+{
+    if x < span {
+        if x < lo {
+            return Gap {
+                low: greater(x + 1, gap.low),
+                high: gap.high,
+                hidden: gap.hidden,
+            };
+        }
+        if hi < x {
+            return Gap {
+                low: gap.low,
+                high: lesser(x - 1, gap.high),
+                hidden: gap.hidden,
+            };
+        }
+        return Gap {
+            low: gap.low,
+            high: gap.high,
+            hidden: true,
+        };
+    }
+    gap
+}
+
+// The gap narrowed by a value of the column.
+fn narrowed(gap: Gap, v: i32, span: u32, lo: u32, hi: u32) -> Gap
+    ensures { λ r. ⌜ r ≡ narrow span lo hi gap v ⌝ }
+{
+    if v < 0 {
+        return gap;
+    }
+    narrowed_by(gap, v as u32, span, lo, hi)
+}
+
+// The gap around the keys lo to hi, in one pass over the column.
+fn gap_around(column: &[i32], span: u32, lo: u32, hi: u32) -> Gap
+    requires { ⌜ 1 ≤ span ⌝ }
+    ensures { λ r. ⌜ r ≡ narrow-all span lo hi (widest span) (now (column .entry)) ⌝ }
+{
+    let mut gap = Gap {
+        low: 0,
+        high: span - 1,
+        hidden: false,
+    };
+    let mut i: usize = 0;
+    while i < column.len() {
+        gap = narrowed(gap, column[i], span, lo, hi);
+        i += 1;
+    }
+    gap
+}
+
+// What became of a look, by what the filter said to the gap.
+fn outcome_of(learnt: Learnt) -> Outcome
+    ensures { λ r. ⌜ r ≡ taught-outcome learnt ⌝ }
+{
+    match learnt {
+        Learnt::Done => Outcome::Learnt,
+        Learnt::NoFilter => Outcome::NotLearnt,
+        Learnt::NoKey => Outcome::NotLearnt,
+        Learnt::Order => Outcome::NotLearnt,
+        Learnt::NoRoom => Outcome::NotLearnt,
+    }
+}
+
+// A look that found nothing: the filter learns the gap, unless a value of the column lies in the range all the same or the filter has no room.
+fn learn_gap(words: &mut [u32], column: &[i32], low: Key, high: Key) -> Outcome
+    requires { ⌜ Looks (now words) (low .0) (high .0) ⌝ }
+    ensures { λ r. ⌜ Missed (now (words .entry)) (now (column .entry)) (low .0) (high .0) r (now (words .exit)) ⌝ }
+{
+    let Reading::Means(meaning) = range_filter::read(words) else {
+        return Outcome::NotLearnt;
+    };
+    let gap = gap_around(column, span_of(meaning.levels), low.0, high.0);
+    if gap.hidden {
+        return Outcome::NotLearnt;
+    }
+    outcome_of(range_filter::learn(words, Key(gap.low), Key(gap.high)))
+}
+
+// A range that the filter denies: no rows, all counts 0.
+fn denied(column: &[i32], borders: &[i32], imprints: &[u64], dictionary: &[u32]) -> GuardAnswer
+    ensures { λ r. ⌜ r ≡ of-index (checked-answer (now (column .entry)) (now (borders .entry)) (now (imprints .entry)) (now (dictionary .entry))) (Done Denied 0 0 0 0) ⌝ }
+{
+    match column_index::checked(column, borders, imprints, dictionary) {
+        IndexCheck::TooLong => GuardAnswer::TooLong,
+        IndexCheck::BadBorders => GuardAnswer::BadBorders,
+        IndexCheck::NoIndex => GuardAnswer::NoIndex,
+        IndexCheck::Fine => GuardAnswer::Done {
+            outcome: Outcome::Denied,
+            rows: 0,
+            skipped: 0,
+            whole: 0,
+            compared: 0,
+        },
+    }
+}
+
+// A range that the filter does not deny: the range search runs, and what it finds empty is learnt.
+fn look(
+    words: &mut [u32],
+    column: &[i32],
+    borders: &[i32],
+    imprints: &[u64],
+    dictionary: &[u32],
+    low: Key,
+    high: Key,
+    rows: &mut [u32],
+) -> GuardAnswer
+    requires { ⌜ Looks (now words) (low .0) (high .0) ⌝ }
+    ensures { λ r. ⌜ Sought (now (words .entry)) (now (column .entry)) (now (borders .entry)) (now (imprints .entry)) (now (dictionary .entry)) (low .0) (high .0) (now (rows .entry)) r (now (words .exit)) (now (rows .exit)) ⌝ }
+{
+    let first = value_of(low.0);
+    let last = value_of(high.0);
+    match column_index::search(column, borders, imprints, dictionary, first, last, rows) {
+        SearchAnswer::TooLong => GuardAnswer::TooLong,
+        SearchAnswer::BadBorders => GuardAnswer::BadBorders,
+        SearchAnswer::NoIndex => GuardAnswer::NoIndex,
+        SearchAnswer::LowAboveHigh => GuardAnswer::LowAboveHigh,
+        SearchAnswer::Short(n) => GuardAnswer::Short(n),
+        SearchAnswer::Done {
+            rows: n,
+            skipped,
+            whole,
+            compared,
+        } => {
+            if n == 0 {
+                let outcome = learn_gap(words, column, low, high);
+                return GuardAnswer::Done {
+                    outcome,
+                    rows: n,
+                    skipped,
+                    whole,
+                    compared,
+                };
+            }
+            GuardAnswer::Done {
+                outcome: Outcome::Found,
+                rows: n,
+                skipped,
+                whole,
+                compared,
+            }
+        }
+    }
+}
+
+// The search of the keys low to high: the filter is asked first.
+pub fn guarded_search(
+    words: &mut [u32],
+    column: &[i32],
+    borders: &[i32],
+    imprints: &[u64],
+    dictionary: &[u32],
+    low: Key,
+    high: Key,
+    rows: &mut [u32],
+) -> GuardAnswer
+    ensures { λ r. ⌜ Guards (now (words .entry)) (now (column .entry)) (now (borders .entry)) (now (imprints .entry)) (now (dictionary .entry)) (low .0) (high .0) (now (rows .entry)) r (now (words .exit)) (now (rows .exit)) ⌝ }
+{
+    match range_filter::ask(words, low, high) {
+        Asked::NoFilter => GuardAnswer::NoFilter,
+        Asked::NoKey => GuardAnswer::NoKey,
+        Asked::Order => GuardAnswer::LowAboveHigh,
+        Asked::Denied => denied(column, borders, imprints, dictionary),
+        Asked::Look => look(
+            words,
+            column,
+            borders,
+            imprints,
+            dictionary,
+            low,
+            high,
+            rows,
+        ),
+    }
+}
+
+// Seven words beside an answer.
+fn tell(
+    out: &mut [u64],
+    number: u64,
+    outcome: u64,
+    needed: u64,
+    rows: u64,
+    skipped: u64,
+    whole: u64,
+    compared: u64,
+)
+    requires { ⌜ length (now out) ≡ 7 ⌝ }
+    ensures { λ _. ⌜ now (out .exit) ≡ number ∷ outcome ∷ needed ∷ rows ∷ skipped ∷ whole ∷ compared ∷ [] ⌝ }
+{
+    out[0] = number;
+    out[1] = outcome;
+    out[2] = needed;
+    out[3] = rows;
+    out[4] = skipped;
+    out[5] = whole;
+    out[6] = compared;
+}
+
+// What became of a search, as a number.
+fn outcome_word(outcome: Outcome) -> u64
+    ensures { λ r. ⌜ r ≡ outcome-number outcome ⌝ }
+{
+    match outcome {
+        Outcome::Denied => 0,
+        Outcome::Found => 1,
+        Outcome::Learnt => 2,
+        Outcome::NotLearnt => 3,
+    }
+}
+
+// An answer in seven words.
+fn told(answer: GuardAnswer, out: &mut [u64])
+    requires { ⌜ length (now out) ≡ 7 ⌝ }
+    ensures { λ _. ⌜ now (out .exit) ≡ guard-words answer ⌝ }
+{
+    match answer {
+        GuardAnswer::Done {
+            outcome,
+            rows,
+            skipped,
+            whole,
+            compared,
+        } => tell(
+            out,
+            0,
+            outcome_word(outcome),
+            0,
+            rows as u64,
+            skipped as u64,
+            whole as u64,
+            compared as u64,
+        ),
+        GuardAnswer::NoFilter => tell(out, 8, 0, 0, 0, 0, 0, 0),
+        GuardAnswer::NoKey => tell(out, 7, 0, 0, 0, 0, 0, 0),
+        GuardAnswer::LowAboveHigh => tell(out, 1, 0, 0, 0, 0, 0, 0),
+        GuardAnswer::TooLong => tell(out, 2, 0, 0, 0, 0, 0, 0),
+        GuardAnswer::BadBorders => tell(out, 5, 0, 0, 0, 0, 0, 0),
+        GuardAnswer::NoIndex => tell(out, 3, 0, 0, 0, 0, 0, 0),
+        GuardAnswer::Short(n) => tell(out, 4, 0, n as u64, 0, 0, 0, 0),
+    }
+}
+
+// How many rows an answer lists.
+fn listed_by(answer: GuardAnswer) -> usize
+    ensures { λ r. ⌜ r ≡ guard-listed answer ⌝ }
+{
+    match answer {
+        GuardAnswer::Done {
+            outcome: _,
+            rows,
+            skipped: _,
+            whole: _,
+            compared: _,
+        } => rows,
+        GuardAnswer::NoFilter => 0,
+        GuardAnswer::NoKey => 0,
+        GuardAnswer::LowAboveHigh => 0,
+        GuardAnswer::TooLong => 0,
+        GuardAnswer::BadBorders => 0,
+        GuardAnswer::NoIndex => 0,
+        GuardAnswer::Short(_) => 0,
+    }
+}
+
+// The same search, which hands back the front part of the caller's own row space. The seven words are the number, what became of it (0 denied, 1 found, 2 learnt, 3 not learnt), the length needed, how many rows, lines skipped, lines whole, values compared.
+pub fn guarded_rows<'a>(
+    words: &mut [u32],
+    column: &[i32],
+    borders: &[i32],
+    imprints: &[u64],
+    dictionary: &[u32],
+    low: Key,
+    high: Key,
+    rows: &'a mut [u32],
+    out: &mut [u64; 7],
+) -> &'a mut [u32]
+    ensures own { λ r. ⌜ r .ptr ≡ rows .entry .ptr ⌝ }
+    ensures words { λ r. ⌜ Hands (now (words .entry)) (now (column .entry)) (now (borders .entry)) (now (imprints .entry)) (now (dictionary .entry)) (low .0) (high .0) (now (rows .entry)) (now (words .exit)) (now r) (now (out .exit)) ⌝ }
+{
+    let answer = guarded_search(
+        words,
+        column,
+        borders,
+        imprints,
+        dictionary,
+        low,
+        high,
+        &mut *rows,
+    );
+    told(answer, out);
+    let n = listed_by(answer);
+    &mut rows[..n]
 }

@@ -1,0 +1,19 @@
+-- `guarded_search::value_of` meets its contract. Assumes nothing.
+use mir.Syntax.{w32}
+use mir.ValLaws.{toZ-pos}
+use borrow.Author.Needs.{needs}
+use Rattle.guarded_search.proofs.value_of.Statement.{statement}
+use Rattle.guarded_search.proofs.value_of.Tie as tie
+use Rattle.guarded_search.proofs.value_of.Reads as reads
+use Rattle.guarded_search.proofs.value_of.Lts as lts
+
+-- src/lib.rt:65:5
+cast-result : tie.Need-cast-result
+cast-result c = search needs
+
+-- src/lib.rt:61:1
+returns : tie.Need-returns
+returns c = toZ-pos w32 (c .args .key) (c .pre)
+
+pub value-of-spec : {M : Type 1} → statement M
+value-of-spec = tie.close (tie.spec cast-result returns)

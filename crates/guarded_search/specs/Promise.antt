@@ -1,0 +1,98 @@
+-- Document 01, "Search with both": what it answers, refusals in their order, and every lent word afterwards. Assumes nothing.
+use mathlib.Core.Path.{_≡_}
+use mathlib.Core.Bool.{cond}
+use mathlib.Core.List.{List, [], _∷_}
+use Prim.Native.Nat.{ℕ}
+use lib.Dec.{ltb}
+use lib.IntN.{ℤ}
+use lib.ListN.{length, take}
+use Rattle.words.specs.Lists.{after}
+use Rattle.words.specs.Numbers.{numbered, done, low-above-high, column-too-long, no-index, space-too-short, bad-borders, no-key, no-filter}
+use Rattle.bins.specs.Bins.{readings}
+use Rattle.column_index.specs.Search.{Answer}
+use Rattle.column_index.specs.Promise.{checked-answer}
+use Rattle.column_index.specs.declared.IndexCheck.{IndexCheck}
+use Rattle.column_index.specs.declared.IndexCheck.the-variants as checking
+use Rattle.range_filter.specs.Layout.{Memory, Filter}
+use Rattle.range_filter.specs.Promise.{Kept, ofRange}
+use Rattle.guarded_search.specs.Guarded.{Result, guarded}
+use Rattle.guarded_search.specs.declared.Outcome.{Outcome}
+use Rattle.guarded_search.specs.declared.Outcome.the-variants.{Denied, Found, Learnt, NotLearnt}
+use Rattle.guarded_search.specs.declared.GuardAnswer.{GuardAnswer}
+use Rattle.guarded_search.specs.declared.GuardAnswer.the-variants as guard
+
+abbrev pub guard-number : GuardAnswer → ℕ
+guard-number (guard.Done o n s w c) = numbered done
+guard-number guard.NoFilter = numbered no-filter
+guard-number guard.NoKey = numbered no-key
+guard-number guard.LowAboveHigh = numbered low-above-high
+guard-number guard.TooLong = numbered column-too-long
+guard-number guard.BadBorders = numbered bad-borders
+guard-number guard.NoIndex = numbered no-index
+guard-number (guard.Short n) = numbered space-too-short
+
+abbrev pub outcome-number : Outcome → ℕ
+outcome-number Denied = 0
+outcome-number Found = 1
+outcome-number Learnt = 2
+outcome-number NotLearnt = 3
+
+-- beside the number: what became of it, the length needed, how many rows, lines skipped, lines whole, values compared
+abbrev pub guard-beside : GuardAnswer → List ℕ
+guard-beside (guard.Done o n s w c) = outcome-number o ∷ 0 ∷ n ∷ s ∷ w ∷ c ∷ []
+guard-beside guard.NoFilter = 0 ∷ 0 ∷ 0 ∷ 0 ∷ 0 ∷ 0 ∷ []
+guard-beside guard.NoKey = 0 ∷ 0 ∷ 0 ∷ 0 ∷ 0 ∷ 0 ∷ []
+guard-beside guard.LowAboveHigh = 0 ∷ 0 ∷ 0 ∷ 0 ∷ 0 ∷ 0 ∷ []
+guard-beside guard.TooLong = 0 ∷ 0 ∷ 0 ∷ 0 ∷ 0 ∷ 0 ∷ []
+guard-beside guard.BadBorders = 0 ∷ 0 ∷ 0 ∷ 0 ∷ 0 ∷ 0 ∷ []
+guard-beside guard.NoIndex = 0 ∷ 0 ∷ 0 ∷ 0 ∷ 0 ∷ 0 ∷ []
+guard-beside (guard.Short n) = 0 ∷ n ∷ 0 ∷ 0 ∷ 0 ∷ 0 ∷ []
+
+-- what a search answers into a row space of so many words; a search that lists nothing, as a denied one, is never short of room
+abbrev pub guard-room : Outcome → Answer → ℕ → GuardAnswer
+guard-room o a space = cond (ltb space (length (a .ids))) (guard.Short (length (a .ids))) (guard.Done o (length (a .ids)) (a .skips) (a .wholes) (a .compares))
+
+-- 2, 5, 3, as the index part checks them, then what the search does
+abbrev pub of-index : IndexCheck → GuardAnswer → GuardAnswer
+of-index checking.Fine a = a
+of-index checking.TooLong a = guard.TooLong
+of-index checking.BadBorders a = guard.BadBorders
+of-index checking.NoIndex a = guard.NoIndex
+
+-- after 8: 7, 1, then 2, 5, 3, then the search with what the filter remembers
+abbrev pub guard-answer : List ℤ → List ℤ → List ℕ → List ℕ → ℕ → ℕ → ℕ → Memory → GuardAnswer
+guard-answer col bs is ds lo hi space m =
+    let s = guarded readings m bs ds is col lo hi in
+    ofRange guard.NoKey guard.LowAboveHigh lo hi m (of-index (checked-answer col bs is ds) (guard-room (s .outcome) (s .answer) space))
+
+-- The search of the keys lo to hi, over the filter words w, the column and its index, into the row space rows. Number 0 makes the words mean what the filter remembers
+-- afterwards, and puts the rows listed at the front of the row space; any other changes nothing.
+pub record Guards (w : List ℕ) (col bs : List ℤ) (is ds : List ℕ) (lo hi : ℕ) (rows : List ℕ) (r : GuardAnswer) (w′ rows′ : List ℕ) : Type 0 where
+  pub kept : Kept w guard.NoFilter guard-number (guard-answer col bs is ds lo hi (length rows)) (λ m. guarded readings m bs ds is col lo hi .memory) r w′
+  pub meant-rows : (m : Memory) → Filter w m → rows′ ≡ after (guard-number r) (guarded readings m bs ds is col lo hi .answer .ids) rows
+  pub not-meant-rows : ((m : Memory) → Filter w m → ⊥) → rows′ ≡ rows
+
+-- ---- the same search, handing back the front part of the caller's own row space
+
+-- how many rows an answer lists
+abbrev pub guard-listed : GuardAnswer → ℕ
+guard-listed (guard.Done o n s w c) = n
+guard-listed guard.NoFilter = 0
+guard-listed guard.NoKey = 0
+guard-listed guard.LowAboveHigh = 0
+guard-listed guard.TooLong = 0
+guard-listed guard.BadBorders = 0
+guard-listed guard.NoIndex = 0
+guard-listed (guard.Short n) = 0
+
+-- the seven words beside it: the number, then what became of it, the length needed, how many rows, lines skipped, lines whole, values compared
+abbrev pub guard-words : GuardAnswer → List ℕ
+guard-words r = guard-number r ∷ guard-beside r
+
+-- What the search answers and leaves, by its own promise: the part handed back is the front of the row space as it leaves it, and the seven words tell its answer.
+pub record Hands (w : List ℕ) (col bs : List ℤ) (is ds : List ℕ) (lo hi : ℕ) (rows w′ part out′ : List ℕ) : Type 0 where
+  pub answer : GuardAnswer
+  pub rows′ : List ℕ
+  pub guards : Guards w col bs is ds lo hi rows answer w′ rows′
+  pub part-is : part ≡ take (guard-listed answer) rows′
+  pub words-are : out′ ≡ guard-words answer
