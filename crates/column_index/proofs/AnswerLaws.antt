@@ -1,10 +1,10 @@
 -- The cases of the promises of build, pack and unpack: which facts make which answer the promised one. Assumes nothing.
-use Prim.Native.Nat.{ℕ, zero, suc, _+_, _<_, _≤_}
-use mathlib.Core.Path.{_≡_, refl, sym, _∙_, ap}
-use mathlib.Core.List.{List, [], _∷_}
-use mathlib.Core.Bool.{Bool, true, false, cond, not, _&&_, and-eq-true-iff}
+use Prim.Native.Nat.{ℕ, _<_, _≤_}
+use mathlib.Core.Path.{_≡_, refl, _∙_, ap}
+use mathlib.Core.List.{List}
+use mathlib.Core.Bool.{true, false, and-eq-true-iff}
 use native.Mathlib.Omega.{arith}
-use lib.Dec.{leb, ltb, lit<, lit≤}
+use lib.Dec.{leb, lit<, lit≤}
 use lib.ListN.{length, take, length-take}
 use lib.Seq.{sets}
 use lib.IntN.{ℤ}
@@ -13,7 +13,7 @@ use Rattle.words.specs.Lists.{every}
 use Rattle.words.proofs.ListLaws.{sets-filled}
 use Rattle.bins.specs.Bins.{readings, borders, rising, good-borders, bins}
 use Rattle.bins.proofs.BorderLaws.{borders-count}
-use Rattle.dictionary.specs.Dictionary.{Packed, pack, unpack, largest, fit, accepted}
+use Rattle.dictionary.specs.Dictionary.{pack, unpack, largest, fit, accepted}
 use Rattle.dictionary.proofs.IndexLaws.{accepted-lines}
 use Rattle.column_index.specs.Index.{packed-with, built}
 use Rattle.column_index.specs.Promise.{Builds, build-answer, Packs, pack-answer, Unpacks, unpack-answer}

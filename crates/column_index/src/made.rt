@@ -6,7 +6,7 @@ use bins::Line;
 use dictionary::packing::Lengths;
 use dictionary::packing::Packer;
 ghost use mathlib.Core.Path.{_≡_};
-ghost use Prim.Native.Nat.{ℕ, suc, _+_, _≤_};
+ghost use Prim.Native.Nat.{_+_, _≤_};
 ghost use lib.ListN.{length};
 ghost use lib.Seq.{sets};
 ghost use Rattle.words.specs.Lists.{ceil};
@@ -25,7 +25,7 @@ fn line_count(rows: usize) -> usize
 // One more bins than borders.
 fn bin_count(borders: &[i32]) -> u32
     requires { ⌜ length (now borders) ≤ 63 ⌝ }
-    ensures { λ r. ⌜ r ≡ suc (length (now (borders .entry))) ⌝ }
+    ensures { λ r. ⌜ r ≡ bins (now (borders .entry)) ⌝ }
 {
     (borders.len() + 1) as u32
 }

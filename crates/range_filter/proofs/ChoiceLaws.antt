@@ -8,16 +8,16 @@ use native.Mathlib.Omega.{arith}
 use lib.Dec.{leb, eqb}
 use lib.Pow.{pow-pos}
 use borrow.Author.Tests.{le-leb, lt-leb, eq-eqb, ne-eqb, leb-true, leb-false}
-use Rattle.range_filter.specs.Tree.{Tree, leaf, node, join, shift, treeOf, splits, paint}
+use Rattle.halving_tree.specs.Tree.{Tree, leaf, node, join, shift, treeOf, splits, paint}
 use Rattle.range_filter.specs.Calls.{Choice, none, split, pairs, lower, startsFrom, lowestFrom, single}
 use Rattle.range_filter.specs.Calls as calls
-use Rattle.range_filter.specs.Found.{orElse, moved, pickFound, pairHere, firstFrom, Below}
-use Rattle.range_filter.specs.declared.Found.{Found}
-use Rattle.range_filter.specs.declared.Found.the-variants.{Nothing, Pair}
-use Rattle.range_filter.proofs.Laws.{treeOf-down}
-use Rattle.range_filter.proofs.AskLaws.{half-is}
-use Rattle.range_filter.proofs.LeafLaws.{down-ind, join-cases}
-use Rattle.range_filter.proofs.ForgetLaws.{or-below, moved-below, wider, here-below}
+use Rattle.halving_tree.specs.Found.{orElse, moved, pickFound, pairHere, firstFrom, Below}
+use Rattle.halving_tree.specs.declared.Found.{Found}
+use Rattle.halving_tree.specs.declared.Found.the-variants.{Nothing, Pair}
+use Rattle.halving_tree.proofs.Laws.{treeOf-down}
+use Rattle.halving_tree.proofs.AskLaws.{half-is}
+use Rattle.halving_tree.proofs.LeafLaws.{down-ind, join-cases}
+use Rattle.halving_tree.proofs.ForgetLaws.{or-below, moved-below, wider, here-below}
 
 -- the code's answer as a choice, its keys counted from s
 unfoldable pub choice : ℕ → Found → Choice

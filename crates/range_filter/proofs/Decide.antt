@@ -10,11 +10,11 @@ use lib.Dec.{eqb}
 use lib.ListN.{length, getD}
 use borrow.Author.Tests.{eqb-true, eqb-false}
 use Rattle.range_filter.specs.Layout.{Memory, Filter}
-use Rattle.range_filter.specs.Seen.{Saw}
-use Rattle.range_filter.specs.declared.Seen.{Seen}
-use Rattle.range_filter.specs.declared.Seen.the-variants.{Bad, Good}
-use Rattle.range_filter.proofs.LeafLaws.{down-ind}
-use Rattle.range_filter.proofs.SeenLaws as seen
+use Rattle.halving_tree.specs.Seen.{Saw}
+use Rattle.halving_tree.specs.declared.Seen.{Seen}
+use Rattle.halving_tree.specs.declared.Seen.the-variants.{Bad, Good}
+use Rattle.halving_tree.proofs.LeafLaws.{down-ind}
+use Rattle.halving_tree.proofs.SeenLaws as seen
 use Rattle.range_filter.proofs.LoadLaws as load
 
 -- a tree of k levels is laid out at p, or none is

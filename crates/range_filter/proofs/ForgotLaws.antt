@@ -10,20 +10,21 @@ use lib.ListN.{set}
 use lib.Seq.{sets, set-getD}
 use borrow.Author.Tests.{eq-eqb, ne-eqb}
 use native.Mathlib.Numerals.{add-one}
-use Rattle.range_filter.specs.Tree.{Tree, leaf, node, join, shift, treeOf, splits, paint}
-use Rattle.range_filter.specs.Layout.{encode, Memory, treeIn, layout, Filter}
+use Rattle.halving_tree.specs.Tree.{Tree, leaf, node, join, shift, treeOf, splits, paint}
+use Rattle.halving_tree.specs.Encode.{encode}
+use Rattle.range_filter.specs.Layout.{Memory, treeIn, layout, Filter}
 use Rattle.range_filter.specs.Calls.{Choice, none, split, pairs, lowestFrom, single, chosen, keyAfter, without, forgotten}
 use Rattle.range_filter.specs.Calls as calls
-use Rattle.range_filter.specs.Found.{orElse, moved, pickFound, pairHere, firstFrom, Below, walk}
-use Rattle.range_filter.specs.Place.{At}
-use Rattle.range_filter.specs.Repaint.{Painted}
+use Rattle.halving_tree.specs.Found.{orElse, moved, pickFound, pairHere, firstFrom, Below, walk}
+use Rattle.halving_tree.specs.Place.{At}
+use Rattle.halving_tree.specs.Repaint.{Painted}
 use Rattle.range_filter.specs.Loaded.{Heads}
 use Rattle.range_filter.specs.declared.Head.{Head}
-use Rattle.range_filter.specs.declared.Found.{Found}
-use Rattle.range_filter.specs.declared.Found.the-variants.{Nothing, Pair}
-use Rattle.range_filter.proofs.Laws.{treeOf-down}
-use Rattle.range_filter.proofs.LeafLaws.{down-ind, join-cases, Taken, left-taken, right-taken, whole-taken}
-use Rattle.range_filter.proofs.ListLaws.{set-sets}
+use Rattle.halving_tree.specs.declared.Found.{Found}
+use Rattle.halving_tree.specs.declared.Found.the-variants.{Nothing, Pair}
+use Rattle.halving_tree.proofs.Laws.{treeOf-down}
+use Rattle.halving_tree.proofs.LeafLaws.{down-ind, join-cases, Taken, left-taken, right-taken, whole-taken}
+use Rattle.halving_tree.proofs.ListLaws.{set-sets}
 use Rattle.range_filter.proofs.LayoutLaws.{levels-word, room-word}
 use Rattle.range_filter.proofs.PromiseLaws.{tree-here}
 use Rattle.range_filter.proofs.LearnLaws.{same-tree}

@@ -7,12 +7,13 @@ use native.Mathlib.Omega.{arith}
 use lib.ListN.{length, set}
 use lib.Seq.{sets}
 use borrow.Author.Tests.{lt-ltb, le-ltb}
-use Rattle.range_filter.specs.Tree.{Tree, treeOf}
-use Rattle.range_filter.specs.Layout.{encode, layout, wordsNeeded}
+use Rattle.halving_tree.specs.Tree.{Tree, treeOf}
+use Rattle.halving_tree.specs.Encode.{encode}
+use Rattle.range_filter.specs.Layout.{layout, wordsNeeded}
 use Rattle.range_filter.specs.Calls.{freshMemory}
 use Rattle.range_filter.specs.Promise.{Fresh, freshAnswer}
 use Rattle.range_filter.specs.declared.Made.the-variants.{Levels, Room, Short, Done}
-use Rattle.range_filter.proofs.Laws.{treeOf-const}
+use Rattle.halving_tree.proofs.Laws.{treeOf-const}
 use Rattle.range_filter.proofs.PromiseLaws.{or-true}
 
 -- a fresh filter's words: the header and one leaf

@@ -9,21 +9,21 @@ use lib.ListN.{length}
 use lib.Seq.{sets}
 use lib.Pow.{pow-pos}
 use borrow.Author.Tests.{eq-eqb, eqb-true, eqb-false, ltb-false, leb-false}
-use Rattle.range_filter.specs.Tree.{Tree, leaf, treeOf, splits, leafLow, leafHigh, paint}
+use Rattle.halving_tree.specs.Tree.{Tree, leaf, treeOf, splits, leafLow, leafHigh, paint}
 use Rattle.range_filter.specs.Layout.{Memory, treeIn, layout, wordsNeeded, Filter}
 use Rattle.range_filter.specs.Calls.{Choice, none, split, freshMemory, withSet, learnt, tooMany, arrived, chosen, keyAfter, without, forgotten}
 use Rattle.range_filter.specs.Promise.{Told, Kept, wordsAfter, outside, Fresh, madeNumber, freshAnswer, learntNumber, learnAnswer, Learn, arrivedNumber, Arrive, forgotNumber, Forget}
-use Rattle.range_filter.specs.Found.{walk}
-use Rattle.range_filter.specs.declared.Found.{Found}
-use Rattle.range_filter.specs.declared.Found.the-variants.{Nothing, Pair}
+use Rattle.halving_tree.specs.Found.{walk}
+use Rattle.halving_tree.specs.declared.Found.{Found}
+use Rattle.halving_tree.specs.declared.Found.the-variants.{Nothing, Pair}
 use Rattle.range_filter.specs.declared.Made.{Made}
 use Rattle.range_filter.specs.declared.Made.the-variants as made
 use Rattle.range_filter.specs.declared.Learnt.{Learnt}
 use Rattle.range_filter.specs.declared.Learnt.the-variants as taught
 use Rattle.range_filter.specs.declared.Arrived.{Arrived}
 use Rattle.range_filter.specs.declared.Forgot.{Forgot}
-use Rattle.range_filter.proofs.Laws.{treeOf-const}
-use Rattle.range_filter.proofs.LeafLaws.{Taken, taken}
+use Rattle.halving_tree.proofs.Laws.{treeOf-const}
+use Rattle.halving_tree.proofs.LeafLaws.{Taken, taken}
 use Rattle.range_filter.proofs.LayoutLaws.{Fit, fit, written}
 use Rattle.range_filter.proofs.ChoiceLaws.{choice}
 use Rattle.range_filter.proofs.ForgotLaws.{chosen-is, chosen-pair, walk-freed}

@@ -6,32 +6,15 @@ use Prim.Native.Nat.{ℕ, zero, suc, _+_, _-_, _*_, _^_, _≤_, _<_}
 use native.Mathlib.Omega.{arith}
 use lib.ListN.{length, getD, take, drop, set, length-append}
 use lib.Seq.{sets, sets-eq, length-sets, getD-append-seam, take-append-seam}
-use Rattle.range_filter.specs.Tree.{Tree, leaf, node, treeOf, splits}
-use Rattle.range_filter.specs.Layout.{size, leafWord, encode, Memory, treeIn, layout, wordsNeeded, Filter}
-use Rattle.range_filter.specs.Place.{At}
-use Rattle.range_filter.proofs.Laws.{at-unique, at-room}
-use Rattle.range_filter.proofs.FormLaws.{size-splits}
-use Rattle.range_filter.proofs.ListLaws.{length-encode, at-encode}
-use Rattle.range_filter.proofs.OneTree.{one-tree}
-
-pub at-cast : {W W′ : List ℕ} {p p′ : ℕ} (t : Tree) → W ≡ W′ → p ≡ p′ → At W p t → At W′ p′ t
-at-cast t e f h = subst₂ (λ (l : List ℕ) (i : ℕ). At l i t) e f h
-
--- a layout between other words is laid out where it stands
-pub at-between : (A B : List ℕ) (t : Tree) → At (A ++ (encode t ++ B)) (length A) t
-at-between A B (leaf b) = (simp length-append (omega arith), getD-append-seam A (leafWord b) B 0)
-at-between A B (node l r) =
-    let v = size l + 2 in
-    let W = A ++ (encode (node l r) ++ B) in
-    let e₁ : (A ++ (v ∷ [])) ++ (encode l ++ (encode r ++ B)) ≡ W = simp append-assoc in
-    let n₁ : length (A ++ (v ∷ [])) ≡ length A + 1 = length-append A (v ∷ []) in
-    let e₂ : (A ++ (v ∷ encode l)) ++ (encode r ++ B) ≡ W = simp append-assoc in
-    let n₂ : length (A ++ (v ∷ encode l)) ≡ length A + 1 + size l = omega (arith, length-append A (v ∷ encode l), length-encode l) in (
-      simp length-append (omega arith),
-      getD-append-seam A v ((encode l ++ encode r) ++ B) 0,
-      at-cast l e₁ n₁ (at-between (A ++ (v ∷ [])) (encode r ++ B) l),
-      at-cast r e₂ n₂ (at-between (A ++ (v ∷ encode l)) B r),
-    )
+use Rattle.halving_tree.specs.Tree.{Tree, leaf, node, treeOf, splits}
+use Rattle.halving_tree.specs.Encode.{size, leafWord, encode}
+use Rattle.range_filter.specs.Layout.{Memory, treeIn, layout, wordsNeeded, Filter}
+use Rattle.halving_tree.specs.Place.{At}
+use Rattle.halving_tree.proofs.Laws.{at-unique, at-room}
+use Rattle.halving_tree.proofs.FormLaws.{size-splits}
+use Rattle.halving_tree.proofs.ListLaws.{length-encode, at-encode}
+use Rattle.halving_tree.proofs.OneTree.{one-tree}
+use Rattle.halving_tree.proofs.RepaintLaws.{at-cast, at-between}
 
 module _ (w : List ℕ) (m : Memory) (f : Filter w m) where
   pub levels-word : getD w 0 0 ≡ m .levels

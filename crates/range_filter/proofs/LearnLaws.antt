@@ -9,19 +9,20 @@ use lib.ListN.{length, getD, set}
 use lib.Seq.{sets, set-getD, getD-set-other}
 use lib.Pow.{pow-mono}
 use borrow.Author.Tests.{lt-ltb, le-ltb}
-use Rattle.range_filter.specs.Tree.{Tree, treeOf, splits, paint}
-use Rattle.range_filter.specs.Layout.{size, encode, Memory, treeIn, layout, Filter}
+use Rattle.halving_tree.specs.Tree.{Tree, treeOf, splits, paint}
+use Rattle.halving_tree.specs.Encode.{size, encode}
+use Rattle.range_filter.specs.Layout.{Memory, treeIn, layout, Filter}
 use Rattle.range_filter.specs.Calls.{withSet, learnt, tooMany, arrived}
-use Rattle.range_filter.specs.Place.{At, Place, Holds}
-use Rattle.range_filter.specs.Form.{formOf, splitsOf, Spot, Fill}
-use Rattle.range_filter.specs.Repaint.{Ready, Painted}
+use Rattle.halving_tree.specs.Place.{At, Place, Holds}
+use Rattle.halving_tree.specs.Form.{formOf, splitsOf, Spot, Fill}
+use Rattle.halving_tree.specs.Repaint.{Ready, Painted}
 use Rattle.range_filter.specs.Loaded.{Heads}
 use Rattle.range_filter.specs.declared.Head.{Head}
-use Rattle.range_filter.specs.declared.Form.{Form}
-use Rattle.range_filter.proofs.FormLaws.{size-splits, form-splits}
+use Rattle.halving_tree.specs.declared.Form.{Form}
+use Rattle.halving_tree.proofs.FormLaws.{size-splits, form-splits}
 use Rattle.range_filter.proofs.LayoutLaws.{levels-word, room-word, hand-word, tree-at}
 use Rattle.range_filter.proofs.PromiseLaws.{tree-here}
-use Rattle.range_filter.proofs.LeafLaws.{taken}
+use Rattle.halving_tree.proofs.LeafLaws.{taken}
 use Rattle.range_filter.proofs.ReadLaws.{few-words}
 
 -- a layout with the header that stands there already writes the tree alone

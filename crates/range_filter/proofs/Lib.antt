@@ -1,22 +1,10 @@
 -- The laws of the filter part.
-pub mod Laws
-pub mod ListLaws
-pub mod SeenLaws
-pub mod AskLaws
-pub mod FormLaws
-pub mod PaintLaws
-pub mod AfterLaws
-pub mod PutLaws
-pub mod LeafLaws
-pub mod OneTree
 pub mod LayoutLaws
 pub mod LoadLaws
 pub mod PromiseLaws
 pub mod ReadLaws
-pub mod RepaintLaws
 pub mod LearnLaws
 pub mod FreshLaws
-pub mod ForgetLaws
 pub mod ChoiceLaws
 pub mod ForgotLaws
 pub mod Bound

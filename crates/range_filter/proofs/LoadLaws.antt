@@ -5,13 +5,14 @@ use mathlib.Core.List.{List, [], _∷_, _++_}
 use Prim.Native.Nat.{ℕ, zero, suc, _+_, _-_, _*_, _^_, _≤_, _<_}
 use native.Mathlib.Omega.{arith}
 use lib.ListN.{length, getD}
-use Rattle.range_filter.specs.Tree.{Tree, treeOf, splits}
-use Rattle.range_filter.specs.Layout.{size, Memory, treeIn, Filter}
-use Rattle.range_filter.specs.Place.{At}
-use Rattle.range_filter.specs.Seen.{Saw}
-use Rattle.range_filter.specs.declared.Seen.the-variants.{Bad, Good}
-use Rattle.range_filter.proofs.Laws.{at-unique}
-use Rattle.range_filter.proofs.FormLaws.{size-splits}
+use Rattle.halving_tree.specs.Tree.{Tree, treeOf, splits}
+use Rattle.halving_tree.specs.Encode.{size}
+use Rattle.range_filter.specs.Layout.{Memory, treeIn, Filter}
+use Rattle.halving_tree.specs.Place.{At}
+use Rattle.halving_tree.specs.Seen.{Saw}
+use Rattle.halving_tree.specs.declared.Seen.the-variants.{Bad, Good}
+use Rattle.halving_tree.proofs.Laws.{at-unique}
+use Rattle.halving_tree.proofs.FormLaws.{size-splits}
 use Rattle.range_filter.proofs.LayoutLaws.{levels-word, room-word, hand-word, tree-at-word, begins}
 
 module _ (w : List ℕ) where

@@ -8,8 +8,8 @@ use lib.Dec.{ltb, leb, eqb}
 use borrow.Author.Tests.{lt-ltb, le-ltb, le-leb, lt-leb, eqb-true, eqb-false}
 use Rattle.range_filter.specs.Layout.{Memory, Filter}
 use Rattle.range_filter.specs.Calls.{run, allIn}
-use Rattle.range_filter.specs.Tree.{treeOf}
-use Rattle.range_filter.specs.Place.{At, AllIn, Says}
+use Rattle.halving_tree.specs.Tree.{treeOf}
+use Rattle.halving_tree.specs.Place.{At, AllIn, Says}
 use Rattle.range_filter.specs.Promise.{Told, Kept, wordsAfter, ofRange, ofKey}
 use Rattle.range_filter.specs.Loaded.{Heads}
 use Rattle.range_filter.specs.declared.Head.{Head}

@@ -3,14 +3,14 @@ use mathlib.Core.Path.{_≡_, ap₂, _∙_}
 use Prim.Native.Nat.{ℕ, _+_, _/_, _≤_, _<_}
 use mathlib.Core.List.{List}
 use native.Mathlib.Omega.{arith}
-use Rattle.range_filter.specs.Tree.{splits}
+use Rattle.halving_tree.specs.Tree.{splits}
 use Rattle.range_filter.specs.Layout.{Memory, treeIn, Filter}
 use Rattle.range_filter.specs.Promise.{readAnswer}
 use Rattle.range_filter.specs.Loaded.{Heads}
 use Rattle.range_filter.specs.declared.Head.{Head}
 use Rattle.range_filter.specs.declared.Reading.{Reading}
 use Rattle.range_filter.specs.declared.Reading.the-variants.{Means}
-use Rattle.range_filter.proofs.FormLaws.{size-splits}
+use Rattle.halving_tree.proofs.FormLaws.{size-splits}
 
 abbrev means : ℕ → ℕ → ℕ → ℕ → Reading
 means a b c d = Means (record { levels = a; room = b; hand = record { 0 = c }; splits = d })

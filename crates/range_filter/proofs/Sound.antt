@@ -8,18 +8,18 @@ use native.Mathlib.Omega.{arith}
 use lib.Dec.{ltb, leb, eqb}
 use lib.Pow.{pow-pos}
 use borrow.Author.Tests.{lt-ltb, le-ltb, eqb-true, eqb-false, leb-false, leb-true}
-use Rattle.range_filter.specs.Tree.{Tree, leaf, node, treeOf, leafLow, leafHigh, paint}
+use Rattle.halving_tree.specs.Tree.{Tree, leaf, node, treeOf, leafLow, leafHigh, paint}
 use Rattle.range_filter.specs.Layout.{Memory, treeIn, Filter}
 use Rattle.range_filter.specs.Calls.{split, freshMemory, allIn, learnt, tooMany, arrived, without, forgotten}
 use Rattle.range_filter.specs.Promise.{outside, Ask, askAnswer, learntNumber, arrivedNumber, arriveAnswer, Arrive, forgotNumber}
-use Rattle.range_filter.specs.Form.{In-range}
+use Rattle.halving_tree.specs.Form.{In-range}
 use Rattle.range_filter.specs.History.{NoneIn, oneLess, History, begins, taught, came, went, forgot}
 use Rattle.range_filter.specs.declared.Asked.{Asked}
 use Rattle.range_filter.specs.declared.Asked.the-variants as asked
 use Rattle.range_filter.specs.declared.Arrived.{Arrived}
 use Rattle.range_filter.specs.declared.Arrived.the-variants as came
-use Rattle.range_filter.proofs.AskLaws.{half-is}
-use Rattle.range_filter.proofs.PaintLaws.{paint-in, paint-out}
+use Rattle.halving_tree.proofs.AskLaws.{half-is}
+use Rattle.halving_tree.proofs.PaintLaws.{paint-in, paint-out}
 use Rattle.range_filter.proofs.PromiseLaws.{is-all-in}
 use Rattle.range_filter.proofs.ChoiceLaws.{Deep, tree-deep}
 use Rattle.range_filter.proofs.Keeps.{meaningAfter, made-filter, learn-filter, arrive-filter, forget-filter, by-choice}

@@ -3,7 +3,7 @@ use mathlib.Core.Bool.{Bool, true, false, cond, _&&_}
 use mathlib.Core.List.{List, [], _∷_, _++_}
 use Prim.Native.Nat.{ℕ, zero, suc, _+_, _-_, _^_}
 use lib.Dec.{ltb, leb, eqb}
-use Rattle.range_filter.specs.Tree.{Tree, leaf, node, treeOf, splits, leafLow, leafHigh, paint}
+use Rattle.halving_tree.specs.Tree.{Tree, leaf, node, treeOf, splits, leafLow, leafHigh, paint}
 use Rattle.range_filter.specs.Layout.{Memory, treeIn}
 
 -- fresh: no key is remembered, and the hand is 0
@@ -46,15 +46,15 @@ pub data Choice : Type 0 where
   split : ℕ → ℕ → Choice
 
 -- a split of k levels that starts at key s, where both its halves are leaves
-abbrev pub pairHere : Tree → Tree → ℕ → ℕ → List Choice
-pairHere (leaf a) (leaf b) k s = split s (s + (2 ^ k - 1)) ∷ []
-pairHere (leaf a) (node x y) k s = []
-pairHere (node x y) r k s = []
+abbrev pub twoLeaves : Tree → Tree → ℕ → ℕ → List Choice
+twoLeaves (leaf a) (leaf b) k s = split s (s + (2 ^ k - 1)) ∷ []
+twoLeaves (leaf a) (node x y) k s = []
+twoLeaves (node x y) r k s = []
 
 -- the splits with two leaves of a tree of k levels that starts at key s
 abbrev pub pairs : Tree → ℕ → ℕ → List Choice
 pairs (leaf b) k s = []
-pairs (node l r) k s = pairHere l r k s ++ (pairs l (k - 1) s ++ pairs r (k - 1) (s + 2 ^ (k - 1)))
+pairs (node l r) k s = twoLeaves l r k s ++ (pairs l (k - 1) s ++ pairs r (k - 1) (s + 2 ^ (k - 1)))
 
 -- of two choices the one of lower start
 abbrev pub lower : Choice → Choice → Choice

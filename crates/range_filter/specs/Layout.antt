@@ -4,7 +4,8 @@ use mathlib.Core.Bool.{Bool, true, false}
 use mathlib.Core.List.{List, [], _∷_, _++_}
 use Prim.Native.Nat.{ℕ, _+_, _*_, _^_, _≤_, _<_}
 use lib.ListN.{length}
-use Rattle.range_filter.specs.Tree.{Tree, leaf, node, treeOf, splits}
+use Rattle.halving_tree.specs.Tree.{Tree, treeOf, splits}
+pub use Rattle.halving_tree.specs.Encode.{size, leafWord, encode}
 
 -- what a filter remembers: its levels, its room, its hand, and the set D of the keys remembered as empty
 pub record Memory : Type 0 where
@@ -16,21 +17,6 @@ pub record Memory : Type 0 where
 -- the filter's tree
 abbrev pub treeIn : Memory → Tree
 treeIn m = treeOf (m .levels) (m .set)
-
--- how many words a tree takes
-abbrev pub size : Tree → ℕ
-size (leaf b) = 1
-size (node l r) = size l + size r + 1
-
--- the word of a leaf: 1 in D, 0 outside
-abbrev pub leafWord : Bool → ℕ
-leafWord true = 1
-leafWord false = 0
-
--- the words of a tree: a split is a word, 2 more than its left half's words, then its left half, then its right half
-abbrev pub encode : Tree → List ℕ
-encode (leaf b) = leafWord b ∷ []
-encode (node l r) = (size l + 2) ∷ (encode l ++ encode r)
 
 -- the words of a filter: levels, room, hand, then its tree
 abbrev pub layout : Memory → List ℕ

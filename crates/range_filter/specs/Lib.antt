@@ -5,9 +5,4 @@ pub mod Calls
 pub mod Promise
 pub mod History
 pub mod Beside
-pub mod Place
-pub mod Seen
-pub mod Form
-pub mod Found
 pub mod Loaded
-pub mod Repaint

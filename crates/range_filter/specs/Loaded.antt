@@ -2,7 +2,8 @@
 use mathlib.Core.Path.{_≡_}
 use mathlib.Core.List.{List}
 use Prim.Native.Nat.{ℕ}
-use Rattle.range_filter.specs.Layout.{size, Memory, treeIn, Filter}
+use Rattle.halving_tree.specs.Encode.{size}
+use Rattle.range_filter.specs.Layout.{Memory, treeIn, Filter}
 use Rattle.range_filter.specs.declared.Head.{Head}
 use Rattle.range_filter.specs.declared.Loaded.{Loaded}
 use Rattle.range_filter.specs.declared.Loaded.the-variants.{Bad, Good}

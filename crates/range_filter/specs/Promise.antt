@@ -7,7 +7,7 @@ use lib.Dec.{ltb, leb, eqb}
 use lib.ListN.{length}
 use lib.Seq.{sets}
 use Rattle.words.specs.Numbers.{Number, numbered, done, low-above-high, space-too-short, bad-levels, no-key, no-filter, no-room, nothing-to-forget, room-too-large}
-use Rattle.range_filter.specs.Tree.{splits}
+use Rattle.halving_tree.specs.Tree.{splits}
 use Rattle.range_filter.specs.Layout.{Memory, treeIn, layout, wordsNeeded, Filter}
 use Rattle.range_filter.specs.Calls.{freshMemory, allIn, learnt, tooMany, arrived, single, forgotten}
 use Rattle.range_filter.specs.declared.Made.{Made}
@@ -52,6 +52,26 @@ ofRange noKey order lo hi m a = cond (outside m lo || outside m hi) noKey (cond 
 abbrev pub ofKey : {A : Type 0} → A → ℕ → Memory → A → A
 ofKey noKey x m a = cond (outside m x) noKey a
 
+-- fresh: 6, 11, 4 with the words needed beside it; no key is remembered
+abbrev pub madeNumber : Made → ℕ
+madeNumber made.Levels = numbered bad-levels
+madeNumber made.Room = numbered room-too-large
+madeNumber (made.Short n) = numbered space-too-short
+madeNumber made.Done = numbered done
+
+abbrev pub madeBeside : Made → ℕ
+madeBeside made.Levels = 0
+madeBeside made.Room = 0
+madeBeside (made.Short n) = n
+madeBeside made.Done = 0
+
+abbrev pub freshAnswer : ℕ → ℕ → ℕ → Made
+freshAnswer levels room len = cond (ltb levels 1 || ltb 20 levels) made.Levels (cond (ltb 4095 room) made.Room (cond (ltb len (wordsNeeded room)) (made.Short (wordsNeeded room)) made.Done))
+
+pub record Fresh (levels room : ℕ) (w : List ℕ) (r : Made) (w′ : List ℕ) : Type 0 where
+  pub answers : r ≡ freshAnswer levels room (length w)
+  pub words : w′ ≡ wordsAfter (madeNumber r) w (freshMemory levels room)
+
 -- ask: 8, 7, 1; the value beside the number is 1 for denied
 abbrev pub askedNumber : Asked → ℕ
 askedNumber asked.NoFilter = numbered no-filter
@@ -72,33 +92,6 @@ askAnswer lo hi m = ofRange asked.NoKey asked.Order lo hi m (cond (allIn (m .set
 
 abbrev pub Ask : List ℕ → ℕ → ℕ → Asked → Type 0
 Ask w lo hi r = Told w asked.NoFilter (askAnswer lo hi) r
-
--- departure: 8, 7
-abbrev pub departedNumber : Departed → ℕ
-departedNumber departed.NoFilter = numbered no-filter
-departedNumber departed.NoKey = numbered no-key
-departedNumber departed.Done = numbered done
-
-abbrev pub departAnswer : ℕ → Memory → Departed
-departAnswer x m = ofKey departed.NoKey x m departed.Done
-
-abbrev pub Depart : List ℕ → ℕ → Departed → Type 0
-Depart w x r = Told w departed.NoFilter (departAnswer x) r
-
--- read: 8; beside 0 stand levels, room, hand and splits
-abbrev pub readingNumber : Reading → ℕ
-readingNumber reading.NoFilter = numbered no-filter
-readingNumber (reading.Means h) = numbered done
-
-abbrev pub readingBeside : Reading → List ℕ
-readingBeside reading.NoFilter = 0 ∷ 0 ∷ 0 ∷ 0 ∷ []
-readingBeside (reading.Means h) = h .levels ∷ h .room ∷ h .hand .0 ∷ h .splits ∷ []
-
-abbrev pub readAnswer : Memory → Reading
-readAnswer m = reading.Means (record { levels = m .levels; room = m .room; hand = record { 0 = m .hand }; splits = splits (treeIn m) })
-
-abbrev pub Read : List ℕ → Reading → Type 0
-Read w r = Told w reading.NoFilter readAnswer r
 
 -- learn: 8, 7, 1, 9; D gains the range
 abbrev pub learntNumber : Learnt → ℕ
@@ -126,25 +119,17 @@ arriveAnswer x m = ofKey came.NoKey x m came.Done
 abbrev pub Arrive : List ℕ → ℕ → Arrived → List ℕ → Type 0
 Arrive w x r w′ = Kept w came.NoFilter arrivedNumber (arriveAnswer x) (λ m. arrived m x) r w′
 
--- fresh: 6, 11, 4 with the words needed beside it; no key is remembered
-abbrev pub madeNumber : Made → ℕ
-madeNumber made.Levels = numbered bad-levels
-madeNumber made.Room = numbered room-too-large
-madeNumber (made.Short n) = numbered space-too-short
-madeNumber made.Done = numbered done
+-- departure: 8, 7
+abbrev pub departedNumber : Departed → ℕ
+departedNumber departed.NoFilter = numbered no-filter
+departedNumber departed.NoKey = numbered no-key
+departedNumber departed.Done = numbered done
 
-abbrev pub madeBeside : Made → ℕ
-madeBeside made.Levels = 0
-madeBeside made.Room = 0
-madeBeside (made.Short n) = n
-madeBeside made.Done = 0
+abbrev pub departAnswer : ℕ → Memory → Departed
+departAnswer x m = ofKey departed.NoKey x m departed.Done
 
-abbrev pub freshAnswer : ℕ → ℕ → ℕ → Made
-freshAnswer levels room len = cond (ltb levels 1 || ltb 20 levels) made.Levels (cond (ltb 4095 room) made.Room (cond (ltb len (wordsNeeded room)) (made.Short (wordsNeeded room)) made.Done))
-
-pub record Fresh (levels room : ℕ) (w : List ℕ) (r : Made) (w′ : List ℕ) : Type 0 where
-  pub answers : r ≡ freshAnswer levels room (length w)
-  pub words : w′ ≡ wordsAfter (madeNumber r) w (freshMemory levels room)
+abbrev pub Depart : List ℕ → ℕ → Departed → Type 0
+Depart w x r = Told w departed.NoFilter (departAnswer x) r
 
 -- forget: 8, 10; the range of the chosen split leaves D, and the hand moves behind it
 abbrev pub forgotNumber : Forgot → ℕ
@@ -157,3 +142,18 @@ forgetAnswer m = cond (single (treeIn m)) forgot.Nothing forgot.Done
 
 abbrev pub Forget : List ℕ → Forgot → List ℕ → Type 0
 Forget w r w′ = Kept w forgot.NoFilter forgotNumber forgetAnswer forgotten r w′
+
+-- read: 8; beside 0 stand levels, room, hand and splits
+abbrev pub readingNumber : Reading → ℕ
+readingNumber reading.NoFilter = numbered no-filter
+readingNumber (reading.Means h) = numbered done
+
+abbrev pub readingBeside : Reading → List ℕ
+readingBeside reading.NoFilter = 0 ∷ 0 ∷ 0 ∷ 0 ∷ []
+readingBeside (reading.Means h) = h .levels ∷ h .room ∷ h .hand .0 ∷ h .splits ∷ []
+
+abbrev pub readAnswer : Memory → Reading
+readAnswer m = reading.Means (record { levels = m .levels; room = m .room; hand = record { 0 = m .hand }; splits = splits (treeIn m) })
+
+abbrev pub Read : List ℕ → Reading → Type 0
+Read w r = Told w reading.NoFilter readAnswer r

@@ -33,9 +33,6 @@ span-of-requires c κs =
     let k = c in
     let s = k .before .before .before .before .before in
     let w = now (s .args .w) in
-    let lo = s .args .low .0 in
-    let hi = s .args .high .0 in
-    let h = k .before .h .given .0 .0 in
     let ld = subst (IsLoaded w) (k .before .h .given .1) (k .before .before .before .load .ensures) in
     omega (arith, ld .1 .few-levels, ld .2 (ld .0) (ld .1) .levels)
 
@@ -80,8 +77,6 @@ all-in-requires c κs =
     let k = c .before .before .before .before in
     let s = k .before .before .before .before .before in
     let w = now (s .args .w) in
-    let lo = s .args .low .0 in
-    let hi = s .args .high .0 in
     let h = k .before .h .given .0 .0 in
     let ld = subst (IsLoaded w) (k .before .h .given .1) (k .before .before .before .load .ensures) in
     let sp = c .before .before .before .span-of in

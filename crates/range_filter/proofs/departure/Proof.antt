@@ -31,7 +31,6 @@ span-of-requires c κs =
     let k = c in
     let s = k .before .before .before .before .before in
     let w = now (s .args .w) in
-    let h = k .before .h .given .0 .0 in
     let ld = subst (IsLoaded w) (k .before .h .given .1) (k .before .before .before .load .ensures) in
     omega (arith, ld .1 .few-levels, ld .2 (ld .0) (ld .1) .levels)
 

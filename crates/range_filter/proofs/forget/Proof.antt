@@ -7,10 +7,10 @@ use native.Mathlib.Omega.{arith}
 use lib.Pow.{pow-pos}
 use Rattle.range_filter.specs.Layout.{treeIn}
 use Rattle.range_filter.specs.Calls.{forgotten}
-use Rattle.range_filter.specs.Found.{Below}
+use Rattle.halving_tree.specs.Found.{Below}
 use Rattle.range_filter.specs.Loaded.{IsLoaded}
 use Rattle.range_filter.specs.Promise.{forgotNumber, forgetAnswer}
-use Rattle.range_filter.specs.declared.Found.{Found}
+use Rattle.halving_tree.specs.declared.Found.{Found}
 use Rattle.range_filter.specs.declared.Forgot.the-variants as forgot
 use Rattle.range_filter.proofs.PromiseLaws.{kept-bad, kept-good, tree-here}
 use Rattle.range_filter.proofs.LearnLaws.{levels-few, span-small, ready}
@@ -70,7 +70,6 @@ returns-2 c =
     let w = now (s .args .w) in
     let h = c .before .before .before .before .before .before .before .h .given .0 .0 in
     let ld = subst (IsLoaded w) (c .before .before .before .before .before .before .before .h .given .1) (c .before .before .before .before .before .before .before .before .before .load .ensures) in
-    let sp = c .before .before .before .before .span-of in
     let ch = c .before .before .choose in
     kept-good w forgot.NoFilter forgotNumber forgetAnswer forgotten forgot.Nothing w (ld .0) (ld .1) (λ m f. let hd = ld .2 m f in (ap (λ (b : Bool). cond b forgot.Nothing forgot.Done) (sym (found-nothing (treeIn m) (m .levels) (m .hand) (sym (c .enum-told2 .given .1) ∙ walked w h m f hd (ch .result) (ch .ensures .0)))), refl))
 
@@ -82,8 +81,6 @@ key-after-requires c κs =
     let ld = subst (IsLoaded w) (c .before .before .before .before .before .before .before .before .h .given .1) (c .before .before .before .before .before .before .before .before .before .before .load .ensures) in
     let sp = c .before .before .before .before .before .span-of in
     let ch = c .before .before .before .choose in
-    let a = c .before .lo .given .0 .0 in
-    let b = c .before .lo .given .0 .1 .0 in
     let e = c .before .lo .given .1 in
     let in-span = subst (λ (f : Found). Below f (sp .result)) e (ch .ensures .1) in
     let hd = ld .2 (ld .0) (ld .1) in
@@ -108,7 +105,6 @@ slice-write-w : tie.Need-slice-write-w
 slice-write-w c =
     let s = c .before .before .before .before .before .before .before .before .before .before .before .before .before .before .before .before .before .before in
     let w = now (s .args .w) in
-    let h = c .before .before .before .before .before .before .before .before .before .before .before .before .before .h .given .0 .0 in
     let ld = subst (IsLoaded w) (c .before .before .before .before .before .before .before .before .before .before .before .before .before .h .given .1) (c .before .before .before .before .before .before .before .before .before .before .before .before .before .before .before .load .ensures) in
     omega (arith, c .before .before .repaint .kept .0, ld .1 .long)
 
@@ -126,7 +122,6 @@ returns-3 c =
     let a = c .before .before .before .before .before .before .lo .given .0 .0 in
     let b = c .before .before .before .before .before .before .lo .given .0 .1 .0 in
     let e = c .before .before .before .before .before .before .lo .given .1 in
-    let in-span = subst (λ (f : Found). Below f (sp .result)) e (ch .ensures .1) in
     kept-good w forgot.NoFilter forgotNumber forgetAnswer forgotten forgot.Done _ (ld .0) (ld .1) (λ m f. let hd = ld .2 m f in (ap (λ (b : Bool). cond b forgot.Nothing forgot.Done) (sym (found-pair (treeIn m) (m .levels) (m .hand) a b (sym e ∙ walked w h m f hd (ch .result) (ch .ensures .0)))), forgotten-out w h m f hd (ch .result) (ch .ensures .0) a b e _ (c .before .before .before .before .key-after .result) (c .before .before .repaint .ensures) (c .before .before .before .before .key-after .ensures (h .levels) (sp .ensures))))
 
 pub forget-spec : {M : Type 1} → statement M

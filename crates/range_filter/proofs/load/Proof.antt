@@ -1,5 +1,5 @@
 use Rattle.range_filter.proofs.LoadLaws as laws
-use Rattle.range_filter.specs.Seen.{Saw}
+use Rattle.halving_tree.specs.Seen.{Saw}
 use lib.ListN.{getD}
 use Rattle.range_filter.proofs.LayoutLaws.{levels-word, room-word, hand-word}
 use Prim.Native.Nat.{ℕ, _+_, _-_, _^_, _<_, _≤_}
@@ -10,10 +10,6 @@ use borrow.Author.Needs.{needs}
 use borrow.Author.Needs.{needs}
 use Rattle.range_filter.proofs.load.Statement.{statement}
 use Rattle.range_filter.proofs.load.Tie as tie
-use Rattle.range_filter.proofs.load.Reads as reads
-use Rattle.range_filter.proofs.load.Lts as lts
-use Rattle.range_filter.proofs.span_of.Reads as span-of-reads
-use Rattle.range_filter.proofs.valid.Reads as valid-reads
 
 -- src/lib.rt:276:9
 returns : tie.Need-returns

@@ -4,8 +4,6 @@ use borrow.Author.Needs.{needs}
 use borrow.Author.Needs.{needs}
 use Rattle.range_filter.proofs.span_of.Statement.{statement}
 use Rattle.range_filter.proofs.span_of.Tie as tie
-use Rattle.range_filter.proofs.span_of.Reads as reads
-use Rattle.range_filter.proofs.span_of.Lts as lts
 
 -- src/lib.rt:258:5
 shl-result : tie.Need-shl-result

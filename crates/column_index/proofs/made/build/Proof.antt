@@ -1,8 +1,8 @@
 -- `column_index::made::build` meets its contract. Assumes nothing.
 use Prim.Native.Nat.{_≤_}
-use mathlib.Core.Path.{_≡_, sym, _∙_, ap}
+use mathlib.Core.Path.{sym}
 use native.Mathlib.Omega.{arith}
-use lib.ListN.{length, take}
+use lib.ListN.{length}
 use lib.Seq.{length-take-le}
 use Rattle.bins.specs.Bins.{readings, borders}
 use Rattle.column_index.proofs.AnswerLaws.{build-too-long, build-borders-short, front-fits}

@@ -1,7 +1,5 @@
 -- `column_index::made::build_with` meets its contract: a packing is never longer than the lines. Assumes nothing.
-use mathlib.Core.Path.{_≡_, sym, _∙_, ap}
 use native.Mathlib.Omega.{arith}
-use lib.ListN.{length}
 use Rattle.column_index.proofs.ColumnLaws.{column-imps-short, column-dict-short}
 use borrow.Author.Needs.{needs}
 use Rattle.column_index.proofs.made.build_with.Statement.{statement}

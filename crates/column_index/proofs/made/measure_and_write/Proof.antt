@@ -1,7 +1,5 @@
 -- `column_index::made::measure_and_write` meets its contract. Assumes nothing.
-use mathlib.Core.Path.{_≡_, sym, _∙_, ap}
 use native.Mathlib.Omega.{arith}
-use lib.ListN.{length}
 use Rattle.column_index.proofs.AnswerLaws.{found-few, found-imprints-short, found-dictionary-short}
 use borrow.Author.Needs.{needs}
 use Rattle.column_index.proofs.made.measure_and_write.Statement.{statement}

@@ -1,10 +1,9 @@
 -- `column_index::made::measure_column` meets its contract: the loop keeps `Measuring` over the imprints from line i on. Assumes nothing.
-use Prim.Native.Nat.{ℕ, _≤_, _<_, _-_, _+_}
-use mathlib.Core.Path.{_≡_, sym, _∙_, ap}
+use Prim.Native.Nat.{_≤_, _-_, _+_}
+use mathlib.Core.Path.{_∙_}
 use native.Mathlib.Omega.{arith}
-use lib.ListN.{length, drop}
+use lib.ListN.{drop}
 use borrow.Author.Needs.{needs}
-use Rattle.words.specs.Lists.{ceil}
 use Rattle.bins.specs.Bins.{readings, imprints}
 use Rattle.dictionary.specs.Dictionary.{largest}
 use Rattle.dictionary.specs.Packer.{after, move-on}

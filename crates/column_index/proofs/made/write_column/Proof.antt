@@ -1,15 +1,14 @@
 -- `column_index::made::write_column` meets its contract: the loop keeps `Writing` over the imprints from line i on. Assumes nothing.
-use Prim.Native.Nat.{ℕ, _≤_, _<_, _-_, _+_}
-use mathlib.Core.Path.{_≡_, sym, _∙_, ap}
+use Prim.Native.Nat.{_≤_, _-_, _+_}
+use mathlib.Core.Path.{_∙_}
 use native.Mathlib.Omega.{arith}
-use lib.ListN.{length, drop}
+use lib.ListN.{drop}
 use borrow.Author.Needs.{needs}
-use Rattle.words.specs.Lists.{ceil}
 use Rattle.bins.specs.Bins.{readings, imprints}
 use Rattle.dictionary.specs.Dictionary.{largest}
 use Rattle.dictionary.specs.Packer.{after, move-on}
 use Rattle.dictionary.proofs.PackLoops.{Writing, writing-starts, words-within, kept-within}
-use Rattle.column_index.proofs.ColumnLaws.{line-inside, column-measures, column-writes, column-written, column-imps-short, column-dict-short}
+use Rattle.column_index.proofs.ColumnLaws.{line-inside, column-measures, column-writes, column-written, column-dict-short}
 use Rattle.column_index.proofs.made.write_column.Statement.{statement}
 use Rattle.column_index.proofs.made.write_column.Tie as tie
 

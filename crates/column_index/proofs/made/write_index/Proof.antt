@@ -1,7 +1,5 @@
 -- `column_index::made::write_index` meets its contract. Assumes nothing.
-use mathlib.Core.Path.{_≡_, sym, _∙_, ap}
 use native.Mathlib.Omega.{arith}
-use lib.ListN.{length}
 use borrow.Author.Needs.{needs}
 use Rattle.column_index.proofs.AnswerLaws.{found-few, found-done}
 use borrow.Author.Needs.{needs}

@@ -1,0 +1,87 @@
+-- The cases of `first_pair`. Assumes nothing.
+use mathlib.Core.Path.{_≡_, refl, sym, ap, ap₂, subst, _∙_}
+use mathlib.Core.Bool.{Bool, true, false}
+use mathlib.Core.List.{List}
+use Prim.Native.Nat.{ℕ, zero, suc, _+_, _-_, _/_, _^_, _≤_, _<_}
+use native.Mathlib.Omega.{arith}
+use lib.ListN.{length, getD}
+use borrow.Author.Tests.{ne-eqb, eq-eqb}
+use Rattle.halving_tree.specs.Tree.{Tree, leaf, node, join, shift, treeOf}
+use Rattle.halving_tree.specs.Encode.{size, leafWord}
+use Rattle.halving_tree.specs.Place.{At, Place}
+use Rattle.halving_tree.specs.Found.{orElse, moved, pickFound, pairHere, firstFrom, Below}
+use Rattle.halving_tree.specs.declared.Found.{Found}
+use Rattle.halving_tree.specs.declared.Found.the-variants.{Nothing, Pair}
+use Rattle.halving_tree.proofs.Laws.{at-in, bit-lt, treeOf-down, Parts}
+use Rattle.halving_tree.proofs.AskLaws.{at-leaf, half-is, deep, halves, right-at}
+
+pub or-below : (f g : Found) (s : ℕ) → Below f s → Below g s → Below (orElse f g) s
+or-below Nothing g s a b = b
+or-below (Pair x y) g s a b = a
+
+pub moved-below : (f : Found) (m s : ℕ) → m + m ≤ s → Below f m → Below (moved f m) s
+moved-below Nothing m s le a = tt
+moved-below (Pair x y) m s le a = (omega arith, omega arith)
+
+pub wider : (f : Found) (m s : ℕ) → m ≤ s → Below f m → Below f s
+wider Nothing m s le a = tt
+wider (Pair x y) m s le a = (omega arith, omega arith)
+
+pub here-below : (l r : Tree) (h last s : ℕ) → last < s → Below (pairHere l r h last) s
+here-below (leaf a) (leaf b) zero last s lt = (omega arith, lt)
+here-below (leaf a) (leaf b) (suc h) last s lt = rw (ne-eqb (suc h) 0 (omega arith)) tt
+here-below (leaf a) (node x y) h last s lt = tt
+here-below (node x y) r h last s lt = tt
+
+module _ (w : List ℕ) (p q from last : ℕ) (l r : Tree) (hl : At w p l) (hr : At w q r) where
+  pub none-late : 0 < from → Nothing ≡ pairHere l r from last
+  none-late lt = go l r
+    where
+      go : (x y : Tree) → Nothing ≡ pairHere x y from last
+      go (leaf a) (leaf b) = rw (ne-eqb from 0 (omega arith))
+      go (leaf a) (node x y) = refl
+      go (node x y) z = refl
+
+  pub none-left : 1 < getD w p 0 → Nothing ≡ pairHere l r from last
+  none-left lt = go l r hl
+    where
+      go : (x y : Tree) → At w p x → Nothing ≡ pairHere x y from last
+      go (leaf a) y h = absurd (omega (arith, bit-lt a))
+      go (node x u) y h = refl
+
+  pub none-right : 1 < getD w q 0 → Nothing ≡ pairHere l r from last
+  none-right lt = go l r hr
+    where
+      go : (x y : Tree) → At w q y → Nothing ≡ pairHere x y from last
+      go (leaf a) (leaf b) h = absurd (omega (arith, bit-lt b))
+      go (leaf a) (node u v) h = refl
+      go (node x u) y h = refl
+
+  pub pair-found : from ≤ 0 → getD w p 0 ≤ 1 → getD w q 0 ≤ 1 → Pair 0 last ≡ pairHere l r from last
+  pair-found z a b = go l r hl hr
+    where
+      go : (x y : Tree) → At w p x → At w q y → Pair 0 last ≡ pairHere x y from last
+      go (leaf c) (leaf d) h g = rw (eq-eqb from 0 (omega arith))
+      go (leaf c) (node u v) h g = absurd (omega arith)
+      go (node x u) y h g = absurd (omega arith)
+
+module _ (w : List ℕ) (p k span : ℕ) (here : Place w p k span 0 0) where
+  pub first-leaf : (b : Bool) (from : ℕ) → getD w p 0 ≡ leafWord b → (D : ℕ → Bool) → At w p (treeOf k D) → Nothing ≡ firstFrom (treeOf k D) k from
+  first-leaf b from e D h = ap (λ (t : Tree). firstFrom t k from) (sym (at-leaf w p (treeOf k D) b h e))
+
+  module _ (n0 : getD w p 0 ≡ 0 → ⊥) (n1 : getD w p 0 ≡ 1 → ⊥) where
+    ne : k ≡ 0 → ⊥
+    ne = deep w p k span 0 0 here n0 n1
+
+    pub half : span / 2 ≡ 2 ^ (k - 1)
+    half = half-is k span ne (here .whole) .0
+
+    pub first-split : (D : ℕ → Bool) → At w p (treeOf k D) → (from : ℕ) (a b c d e : Found) → a ≡ pairHere (treeOf (k - 1) D) (treeOf (k - 1) (shift (2 ^ (k - 1)) D)) from (span - 1) → b ≡ firstFrom (treeOf (k - 1) D) (k - 1) from → c ≡ firstFrom (treeOf (k - 1) (shift (2 ^ (k - 1)) D)) (k - 1) (from - span / 2) → d ≡ moved c (span / 2) → e ≡ orElse a (orElse b d) → e ≡ firstFrom (treeOf k D) k from
+    first-split D h from a b c d e ea eb ec ed ee =
+        let L = treeOf (k - 1) D in
+        let R = treeOf (k - 1) (shift (2 ^ (k - 1)) D) in
+        let t : treeOf k D ≡ node L R = treeOf-down k ne D ∙ halves w p k span 0 0 here n0 n1 D h .split in
+        let s = here .whole in
+        let ea′ : a ≡ pairHere L R from (2 ^ k - 1) = ea ∙ ap (λ (i : ℕ). pairHere L R from (i - 1)) s in
+        let ed′ : d ≡ moved (firstFrom R (k - 1) (from - 2 ^ (k - 1))) (2 ^ (k - 1)) = ed ∙ ap₂ moved (ec ∙ ap (λ (i : ℕ). firstFrom R (k - 1) (from - i)) half) half in
+        ee ∙ ap₂ orElse ea′ (ap₂ orElse eb ed′) ∙ ap (λ (u : Tree). firstFrom u k from) (sym t)
