@@ -1,0 +1,32 @@
+-- `c_api::index::mgz_step` meets its contract, by that of the step. Assumes nothing.
+use mathlib.Core.Path.{ap, _∙_}
+use Rattle.c_api.specs.Promise.{step-number, step-beside}
+use borrow.Author.Needs.{needs}
+use Rattle.c_api.proofs.index.mgz_step.Statement.{statement}
+use Rattle.c_api.proofs.index.mgz_step.Tie as tie
+use Rattle.c_api.proofs.index.mgz_step.Reads as reads
+use Rattle.c_api.proofs.index.mgz_step.Lts as lts
+use Rattle.c_api.proofs.index.step_number.Reads as step-number-reads
+use Rattle.c_api.proofs.index.step_words.Reads as step-words-reads
+use Rattle.dictionary.proofs.Position.step.Reads as step-reads
+
+-- src/index.rt:213:9
+step-requires : tie.Need-step-requires
+step-requires c κs = search needs
+
+-- src/index.rt:214:5
+step-words-requires : tie.Need-step-words-requires
+step-words-requires c κs = search needs
+
+-- src/index.rt:215:5
+step-number-requires : tie.Need-step-number-requires
+step-number-requires c κs = search needs
+
+-- src/index.rt:197:1
+returns : tie.Need-returns
+returns c =
+    let e = c .before .before .before .step .ensures in
+    record { number = c .step-number .ensures ∙ ap step-number e; words = c .before .step-words .ensures ∙ ap step-beside e }
+
+pub mgz-step-spec : {M : Type 1} → statement M
+mgz-step-spec = tie.close (tie.spec step-requires step-words-requires step-number-requires returns)

@@ -1,0 +1,127 @@
+-- The calls for C and Rust: the number, every word beside it and every lent word, each by the promise of the call under it. Assumes nothing.
+use mathlib.Core.Path.{_≡_}
+use mathlib.Core.List.{List, [], _∷_}
+use Prim.Native.Nat.{ℕ}
+use lib.IntN.{ℤ}
+use Rattle.words.specs.Numbers.{numbered, done, no-index}
+use Rattle.dictionary.specs.Position.{position, step}
+use Rattle.dictionary.specs.declared.Position.{Position}
+use Rattle.dictionary.specs.declared.Step.{Step}
+use Rattle.dictionary.specs.declared.Step.the-variants.{Line, Ended, Wrong}
+use Rattle.column_index.specs.Promise.{Builds, build-number, build-beside, Packs, pack-number, pack-beside, Unpacks, unpack-number, Searches, search-number, search-beside}
+use Rattle.column_index.specs.declared.BuildAnswer.{BuildAnswer}
+use Rattle.column_index.specs.declared.PackAnswer.{PackAnswer}
+use Rattle.column_index.specs.declared.UnpackAnswer.{UnpackAnswer}
+use Rattle.column_index.specs.declared.UnpackAnswer.the-variants as unpacking
+use Rattle.column_index.specs.declared.SearchAnswer.{SearchAnswer}
+use Rattle.range_filter.specs.Promise.{Fresh, madeNumber, madeBeside, Ask, askedNumber, Learn, learntNumber, Arrive, arrivedNumber, Depart, departedNumber, Forget, forgotNumber, Read, readingNumber, readingBeside}
+use Rattle.range_filter.specs.declared.Made.{Made}
+use Rattle.range_filter.specs.declared.Asked.{Asked}
+use Rattle.range_filter.specs.declared.Asked.the-variants as asked
+use Rattle.range_filter.specs.declared.Learnt.{Learnt}
+use Rattle.range_filter.specs.declared.Arrived.{Arrived}
+use Rattle.range_filter.specs.declared.Departed.{Departed}
+use Rattle.range_filter.specs.declared.Forgot.{Forgot}
+use Rattle.range_filter.specs.declared.Reading.{Reading}
+
+-- ---- the index part
+
+-- build; beside the number: needed, borders, imprints, dictionary
+pub record BuildFace (col bs : List ℤ) (is ds : List ℕ) (n : ℕ) (bs′ : List ℤ) (is′ ds′ out′ : List ℕ) : Type 0 where
+  pub answer : BuildAnswer
+  pub builds : Builds col bs is ds answer bs′ is′ ds′
+  pub number : n ≡ numbered (build-number answer)
+  pub words : out′ ≡ build-beside answer
+
+-- pack; beside the number: needed, imprints, dictionary
+pub record PackFace (ws : List ℕ) (bs : List ℤ) (is ds : List ℕ) (n : ℕ) (is′ ds′ out′ : List ℕ) : Type 0 where
+  pub answer : PackAnswer
+  pub packs : Packs ws bs is ds answer is′ ds′
+  pub number : n ≡ numbered (pack-number answer)
+  pub words : out′ ≡ pack-beside answer
+
+-- unpack; beside the number: the length needed, which 4 alone fills
+abbrev pub unpack-needed : UnpackAnswer → ℕ
+unpack-needed (unpacking.Done n) = 0
+unpack-needed unpacking.TooLong = 0
+unpack-needed unpacking.BadBorders = 0
+unpack-needed unpacking.NoIndex = 0
+unpack-needed (unpacking.Short n) = n
+
+pub record UnpackFace (bs : List ℤ) (is ds : List ℕ) (lines : ℕ) (ws : List ℕ) (n : ℕ) (ws′ : List ℕ) (needed′ : ℕ) : Type 0 where
+  pub answer : UnpackAnswer
+  pub unpacks : Unpacks bs is ds lines ws answer ws′
+  pub number : n ≡ numbered (unpack-number answer)
+  pub needed : needed′ ≡ unpack-needed answer
+
+-- one step of a line reader; 3 is a bad position. Beside the number: ended, imprint, and the position afterwards as entry, place and number
+abbrev pub step-number : Step → ℕ
+step-number (Line i p) = numbered done
+step-number (Ended p) = numbered done
+step-number (Wrong p) = numbered no-index
+
+abbrev pub step-beside : Step → List ℕ
+step-beside (Line i p) = 0 ∷ i ∷ p .entry ∷ p .place ∷ p .number ∷ []
+step-beside (Ended p) = 1 ∷ 0 ∷ p .entry ∷ p .place ∷ p .number ∷ []
+step-beside (Wrong p) = 0 ∷ 0 ∷ 0 ∷ 0 ∷ 0 ∷ []
+
+pub record StepFace (ds is : List ℕ) (entry place at : ℕ) (n : ℕ) (out′ : List ℕ) : Type 0 where
+  pub number : n ≡ step-number (step ds is (position entry place at))
+  pub words : out′ ≡ step-beside (step ds is (position entry place at))
+
+-- range search; beside the number: needed, rows, skipped, whole, compared
+pub record SearchFace (col bs : List ℤ) (is ds : List ℕ) (low high : ℤ) (rows : List ℕ) (n : ℕ) (rows′ out′ : List ℕ) : Type 0 where
+  pub answer : SearchAnswer
+  pub searches : Searches col bs is ds low high rows answer rows′
+  pub number : n ≡ numbered (search-number answer)
+  pub words : out′ ≡ search-beside answer
+
+-- ---- the filter
+
+-- fresh; beside the number: the words needed, which 4 alone fills
+pub record FreshFace (levels room : ℕ) (w : List ℕ) (n : ℕ) (w′ : List ℕ) (needed′ : ℕ) : Type 0 where
+  pub answer : Made
+  pub makes : Fresh levels room w answer w′
+  pub number : n ≡ madeNumber answer
+  pub needed : needed′ ≡ madeBeside answer
+
+-- ask; beside the number: 1 for look, 0 for denied and beside any other number
+abbrev pub look-word : Asked → ℕ
+look-word asked.NoFilter = 0
+look-word asked.NoKey = 0
+look-word asked.Order = 0
+look-word asked.Look = 1
+look-word asked.Denied = 0
+
+pub record AskFace (w : List ℕ) (lo hi : ℕ) (n look′ : ℕ) : Type 0 where
+  pub answer : Asked
+  pub asks : Ask w lo hi answer
+  pub number : n ≡ askedNumber answer
+  pub look : look′ ≡ look-word answer
+
+pub record LearnFace (w : List ℕ) (lo hi : ℕ) (n : ℕ) (w′ : List ℕ) : Type 0 where
+  pub answer : Learnt
+  pub learns : Learn w lo hi answer w′
+  pub number : n ≡ learntNumber answer
+
+pub record ArriveFace (w : List ℕ) (x : ℕ) (n : ℕ) (w′ : List ℕ) : Type 0 where
+  pub answer : Arrived
+  pub arrives : Arrive w x answer w′
+  pub number : n ≡ arrivedNumber answer
+
+pub record DepartFace (w : List ℕ) (x : ℕ) (n : ℕ) : Type 0 where
+  pub answer : Departed
+  pub departs : Depart w x answer
+  pub number : n ≡ departedNumber answer
+
+pub record ForgetFace (w : List ℕ) (n : ℕ) (w′ : List ℕ) : Type 0 where
+  pub answer : Forgot
+  pub forgets : Forget w answer w′
+  pub number : n ≡ forgotNumber answer
+
+-- read; beside the number: levels, room, hand, splits
+pub record ReadFace (w : List ℕ) (n : ℕ) (out′ : List ℕ) : Type 0 where
+  pub answer : Reading
+  pub reads : Read w answer
+  pub number : n ≡ readingNumber answer
+  pub words : out′ ≡ readingBeside answer
