@@ -1,0 +1,23 @@
+-- `day_examples::front_u32` is safe. Assumes nothing.
+use mathlib.Core.Path.{sym}
+use lib.Seq.{length-take-le}
+use borrow.Author.Needs.{needs}
+use Rattle.day_examples.proofs.front_u32.Statement.{statement}
+use Rattle.day_examples.proofs.front_u32.Tie as tie
+use Rattle.day_examples.proofs.front_u32.Reads as reads
+use Rattle.day_examples.proofs.front_u32.Lts as lts
+
+-- src/main.rt:29:23
+slice-aggregate-result : tie.Need-slice-aggregate-result
+slice-aggregate-result c = sym (length-take-le _ _ (c .before .if1 .taken))
+
+-- src/main.rt:28:1
+returns : tie.Need-returns
+returns c = search needs
+
+-- src/main.rt:28:1
+returns-2 : tie.Need-returns-2
+returns-2 c = search needs
+
+pub front-u32-spec : {M : Type 1} → statement M
+front-u32-spec = tie.close (tie.spec slice-aggregate-result returns returns-2)
