@@ -85,3 +85,10 @@ pub fn position<'a, 'b>(reader: LineReader<'a, 'b>) -> Position
 {
     reader.at
 }
+
+// A reader is made at a position and asked for its step. Its parameters are plain, so that who calls it needs no walk.
+pub fn read_from(dictionary: &[u32], imprints: &[u64], at: Position) -> Step
+    ensures { λ r. ⌜ r ≡ step (now (dictionary .entry)) (now (imprints .entry)) at ⌝ }
+{
+    peek(open_at(dictionary, imprints, at))
+}
