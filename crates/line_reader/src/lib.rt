@@ -4,7 +4,7 @@ use dictionary::Position;
 use dictionary::Step;
 ghost use mathlib.Core.Path.{_≡_};
 ghost use Rattle.dictionary.specs.Position.{position, step};
-ghost use Rattle.line_reader.specs.Reader.{handed-back, gives, reader, stepped};
+ghost use Rattle.line_reader.specs.Reader.{handed-back, gives, reader, stepped, Reads};
 
 pub struct LineReader<'a, 'b> {
     pub dictionary: &'a [u32],
@@ -91,4 +91,30 @@ pub fn read_from(dictionary: &[u32], imprints: &[u64], at: Position) -> Step
     ensures { λ r. ⌜ r ≡ step (now (dictionary .entry)) (now (imprints .entry)) at ⌝ }
 {
     peek(open_at(dictionary, imprints, at))
+}
+
+// How many lines were read, and the position after them.
+pub struct Batch {
+    pub lines: usize,
+    pub at: Position,
+}
+
+// The lines from a position on, at the front of the lent list, until it is full or a step gives no line. The words behind stay as they were.
+pub fn read_lines(dictionary: &[u32], imprints: &[u64], from: Position, list: &mut [u64]) -> Batch
+    ensures { λ r. ⌜ Reads (now (dictionary .entry)) (now (imprints .entry)) from (now (list .entry)) r (now (list .exit)) ⌝ }
+{
+    let mut at = from;
+    let mut lines = 0;
+    while lines < list.len() {
+        match read_from(dictionary, imprints, at) {
+            Step::Line(word, next) => {
+                list[lines] = word;
+                lines += 1;
+                at = next;
+            }
+            Step::Ended(same) => return Batch { lines, at: same },
+            Step::Wrong(same) => return Batch { lines, at: same },
+        }
+    }
+    Batch { lines, at }
 }
