@@ -1,0 +1,2 @@
+-- The definitions that the contracts of found_rows cite.
+pub mod Whole

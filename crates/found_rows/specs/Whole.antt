@@ -1,0 +1,44 @@
+-- Document 01, the range search: its rows and its numbers in one value. Assumes nothing.
+use Prim.Native.Nat.{ℕ}
+use mathlib.Core.List.{List}
+use mathlib.Core.Path.{_≡_}
+use lib.IntN.{ℤ}
+use lib.ListN.{length}
+use denote.Ref.{RefT, now, at-last}
+use Rattle.words.specs.Lists.{after}
+use Rattle.words.specs.Numbers.{numbered}
+use Rattle.bins.specs.Bins.{readings}
+use Rattle.column_index.specs.Search.{search-by}
+use Rattle.column_index.specs.Promise.{search-answer, search-number, listed-by}
+use Rattle.column_index.specs.declared.SearchAnswer.{SearchAnswer}
+use Rattle.column_index.specs.declared.SearchAnswer.the-variants as searching
+use Rattle.found_rows.specs.declared.Figures.{Figures}
+use Rattle.found_rows.specs.declared.FoundRows.{FoundRows}
+
+-- an answer's figures: the number, the length needed, how many rows, lines skipped, lines whole, values compared
+abbrev pub figures : ℕ → ℕ → ℕ → ℕ → ℕ → ℕ → Figures
+figures a n l s w c = record { number = a; needed = n; listed = l; skipped = s; whole = w; compared = c }
+
+abbrev pub figures-of : SearchAnswer → Figures
+figures-of (searching.Done n s w c) = figures 0 0 n s w c
+figures-of searching.TooLong = figures 2 0 0 0 0 0
+figures-of searching.BadBorders = figures 5 0 0 0 0 0
+figures-of searching.NoIndex = figures 3 0 0 0 0 0
+figures-of searching.LowAboveHigh = figures 1 0 0 0 0 0
+figures-of (searching.Short n) = figures 4 n 0 0 0 0
+
+-- the figures of a search into a space of so many words
+unfoldable pub found : List ℤ → List ℤ → List ℕ → List ℕ → ℤ → ℤ → ℕ → Figures
+found col bs is ds low high space = figures-of (search-answer col bs is ds low high space)
+
+-- the rows' space after the search
+unfoldable pub rows-after : List ℤ → List ℤ → List ℕ → List ℕ → ℤ → ℤ → List ℕ → List ℕ
+rows-after col bs is ds low high rows =
+    after (numbered (search-number (search-answer col bs is ds low high (length rows)))) (search-by readings bs ds is col low high .ids) rows
+
+-- the same borrow, at the words that the search leaves, beside the figures
+abbrev pub found-rows : List ℤ → List ℤ → List ℕ → List ℕ → ℤ → ℤ → RefT (List ℕ) → FoundRows
+found-rows col bs is ds low high rows = record {
+  rows = at-last rows (rows-after col bs is ds low high (now rows));
+  found = found col bs is ds low high (length (now rows));
+}
