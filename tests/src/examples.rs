@@ -9,26 +9,12 @@ fn column_a() -> Vec<i32> {
 
 fn search_a(low: i32, high: i32) -> Found {
     let (column, index) = (column_a(), index(&column_a()));
-    search(
-        &column,
-        &index.borders,
-        &index.imprints,
-        &index.dictionary,
-        low,
-        high,
-        40,
-    )
-    .unwrap()
+    search(&column, &index.borders, &index.imprints, &index.dictionary, low, high, 40).unwrap()
 }
 
 fn found(rows: std::ops::Range<u32>, skipped: u64, whole: u64, compared: u64) -> Found {
     let ids = rows.collect();
-    Found {
-        ids,
-        skipped,
-        whole,
-        compared,
-    }
+    Found { ids, skipped, whole, compared }
 }
 
 #[test]
@@ -97,10 +83,7 @@ fn p9_learn_ask_arrive() {
 
 #[test]
 fn p10_room() {
-    assert_eq!(
-        splits_of(&words(learn(&fresh_words(4, 7), 7, 8).unwrap())),
-        7
-    );
+    assert_eq!(splits_of(&words(learn(&fresh_words(4, 7), 7, 8).unwrap())), 7);
     assert_eq!(learn(&fresh_words(4, 6), 7, 8).unwrap_err().number, 9);
 }
 
@@ -125,14 +108,7 @@ fn p12_forget() {
 fn samples_and_lengths() {
     assert_eq!(sample(&vec![1; 2048]).len(), 2048);
     assert_eq!(sample(&vec![1; 2049]).len(), 1025);
-    let nothing = Index {
-        borders: vec![],
-        imprints: vec![],
-        dictionary: vec![],
-    };
+    let nothing = Index { borders: vec![], imprints: vec![], dictionary: vec![] };
     assert_eq!(build(&[], [0, 0, 0]), Ok(nothing));
-    assert_eq!(
-        build(&vec![0; 16_777_217], [63, 9, 9]).unwrap_err().number,
-        2
-    );
+    assert_eq!(build(&vec![0; 16_777_217], [63, 9, 9]).unwrap_err().number, 2);
 }

@@ -17,10 +17,7 @@ fn no<T>(number: u32) -> Result<T, No> {
 }
 
 fn short<T>(needed: usize) -> Result<T, No> {
-    Err(No {
-        number: 4,
-        needed: needed as u64,
-    })
+    Err(No { number: 4, needed: needed as u64 })
 }
 
 // ---------------------------------------------------------------- bins and line imprints
@@ -30,11 +27,7 @@ pub fn lines(rows: usize) -> usize {
 }
 
 pub fn sample(column: &[i32]) -> Vec<i32> {
-    let stride = if column.len() <= 2048 {
-        1
-    } else {
-        column.len().div_ceil(2048)
-    };
+    let stride = if column.len() <= 2048 { 1 } else { column.len().div_ceil(2048) };
     column.iter().copied().step_by(stride).collect()
 }
 
@@ -66,10 +59,7 @@ pub fn imprint(borders: &[i32], line: &[i32]) -> u64 {
 }
 
 pub fn line_imprints(column: &[i32], borders: &[i32]) -> Vec<u64> {
-    column
-        .chunks(ROWS_PER_LINE)
-        .map(|line| imprint(borders, line))
-        .collect()
+    column.chunks(ROWS_PER_LINE).map(|line| imprint(borders, line)).collect()
 }
 
 pub fn borders_good(borders: &[i32]) -> bool {
@@ -122,12 +112,7 @@ pub fn fit(borders: &[i32], word: u64) -> bool {
 }
 
 /// The list of which these words are the packing: of fit words, one per line. There is none where 3 is due.
-pub fn listed(
-    borders: &[i32],
-    imprints: &[u64],
-    dictionary: &[u32],
-    lines: u64,
-) -> Option<Vec<u64>> {
+pub fn listed(borders: &[i32], imprints: &[u64], dictionary: &[u32], lines: u64) -> Option<Vec<u64>> {
     let mut list = Vec::new();
     let mut number = 0;
     for &entry in dictionary {
@@ -156,16 +141,8 @@ pub struct Position {
 }
 
 /// The imprint (none at the end) and the position after the step.
-pub fn step(
-    dictionary: &[u32],
-    imprints: &[u64],
-    at: Position,
-) -> Result<(Option<u64>, Position), No> {
-    let Position {
-        entry,
-        place,
-        number,
-    } = at;
+pub fn step(dictionary: &[u32], imprints: &[u64], at: Position) -> Result<(Option<u64>, Position), No> {
+    let Position { entry, place, number } = at;
     if entry == dictionary.len() as u64 {
         return Ok((None, at));
     }
@@ -181,11 +158,7 @@ pub fn step(
     let after = Position {
         entry: if last { entry + 1 } else { entry },
         place: if last { 0 } else { place + 1 },
-        number: if last || word & REPEAT == 0 {
-            number + 1
-        } else {
-            number
-        },
+        number: if last || word & REPEAT == 0 { number + 1 } else { number },
     };
     Ok((Some(imprints[number as usize]), after))
 }
@@ -203,11 +176,7 @@ pub struct Index {
 pub fn index(column: &[i32]) -> Index {
     let borders = borders(column);
     let (imprints, dictionary) = packing(&line_imprints(column, &borders));
-    Index {
-        borders,
-        imprints,
-        dictionary,
-    }
+    Index { borders, imprints, dictionary }
 }
 
 /// `spaces`: how long the border, imprint and dictionary spaces are.
@@ -216,11 +185,7 @@ pub fn build(column: &[i32], spaces: [usize; 3]) -> Result<Index, No> {
         return no(2);
     }
     let index = index(column);
-    let needed = [
-        index.borders.len(),
-        index.imprints.len(),
-        index.dictionary.len(),
-    ];
+    let needed = [index.borders.len(), index.imprints.len(), index.dictionary.len()];
     for i in 0..3 {
         if spaces[i] < needed[i] {
             return short(needed[i]);
@@ -249,13 +214,7 @@ pub fn pack(list: &[u64], borders: &[i32], spaces: [usize; 2]) -> Result<(Vec<u6
     Ok((imprints, dictionary))
 }
 
-pub fn unpack(
-    borders: &[i32],
-    imprints: &[u64],
-    dictionary: &[u32],
-    lines: u64,
-    space: usize,
-) -> Result<Vec<u64>, No> {
+pub fn unpack(borders: &[i32], imprints: &[u64], dictionary: &[u32], lines: u64, space: usize) -> Result<Vec<u64>, No> {
     if LINES_AT_MOST < lines {
         return no(2);
     }
@@ -273,16 +232,8 @@ pub fn unpack(
 
 /// The smallest and the greatest value of a bin (the first above the second where the bin holds none).
 pub fn span(borders: &[i32], bin: usize) -> (i64, i64) {
-    let from = if bin == 0 {
-        i32::MIN as i64
-    } else {
-        borders[bin - 1] as i64
-    };
-    let to = if bin == borders.len() {
-        i32::MAX as i64
-    } else {
-        borders[bin] as i64 - 1
-    };
+    let from = if bin == 0 { i32::MIN as i64 } else { borders[bin - 1] as i64 };
+    let to = if bin == borders.len() { i32::MAX as i64 } else { borders[bin] as i64 - 1 };
     (from, to)
 }
 
@@ -319,10 +270,7 @@ pub fn rows_of(column: &[i32], borders: &[i32], list: &[u64], low: i32, high: i3
             found.ids.extend(rows.map(|row| row as u32));
         } else {
             found.compared += rows.len() as u64;
-            found.ids.extend(
-                rows.filter(|&row| low <= column[row] && column[row] <= high)
-                    .map(|row| row as u32),
-            );
+            found.ids.extend(rows.filter(|&row| low <= column[row] && column[row] <= high).map(|row| row as u32));
         }
     }
     found
@@ -330,18 +278,10 @@ pub fn rows_of(column: &[i32], borders: &[i32], list: &[u64], low: i32, high: i3
 
 /// What a plain scan lists.
 pub fn scan(column: &[i32], low: i32, high: i32) -> Vec<u32> {
-    (0..column.len())
-        .filter(|&row| low <= column[row] && column[row] <= high)
-        .map(|row| row as u32)
-        .collect()
+    (0..column.len()).filter(|&row| low <= column[row] && column[row] <= high).map(|row| row as u32).collect()
 }
 
-fn index_list(
-    column: &[i32],
-    borders: &[i32],
-    imprints: &[u64],
-    dictionary: &[u32],
-) -> Result<Vec<u64>, No> {
+fn index_list(column: &[i32], borders: &[i32], imprints: &[u64], dictionary: &[u32]) -> Result<Vec<u64>, No> {
     if ROWS_AT_MOST < column.len() {
         return no(2);
     }
@@ -349,10 +289,7 @@ fn index_list(
         return no(5);
     }
     let lines = lines(column.len()) as u64;
-    listed(borders, imprints, dictionary, lines).ok_or(No {
-        number: 3,
-        needed: 0,
-    })
+    listed(borders, imprints, dictionary, lines).ok_or(No { number: 3, needed: 0 })
 }
 
 pub fn search(
@@ -392,9 +329,14 @@ pub fn filter_words(room: u32) -> u64 {
     2 * room as u64 + 4
 }
 
+/// Wholly in D or wholly outside.
+fn uniform(empty: &[bool]) -> bool {
+    empty.iter().all(|&e| e == empty[0])
+}
+
 /// The smallest halving tree in preorder: a leaf is 0 (outside) or 1 (in D), a split is 2 + the words of its left half.
 pub fn tree(empty: &[bool]) -> Vec<u32> {
-    if empty.iter().all(|&e| e == empty[0]) {
+    if uniform(empty) {
         return vec![empty[0] as u32];
     }
     let (left, right) = empty.split_at(empty.len() / 2);
@@ -413,7 +355,7 @@ pub fn splits(empty: &[bool]) -> usize {
 /// The leaf of the smallest tree that holds the key: its first key, and the first one after it.
 pub fn leaf(empty: &[bool], key: usize) -> (usize, usize) {
     let (mut from, mut to) = (0, empty.len());
-    while empty[from..to].iter().any(|&e| e != empty[from]) {
+    while !uniform(&empty[from..to]) {
         let half = from + (to - from) / 2;
         if key < half {
             to = half;
@@ -426,13 +368,13 @@ pub fn leaf(empty: &[bool], key: usize) -> (usize, usize) {
 
 /// Every split with two leaves, by its range, lowest first.
 pub fn pairs(empty: &[bool], from: usize) -> Vec<(usize, usize)> {
-    if splits(empty) == 0 {
+    if uniform(empty) {
         return Vec::new();
     }
-    if splits(empty) == 1 {
+    let half = empty.len() / 2;
+    if uniform(&empty[..half]) && uniform(&empty[half..]) {
         return vec![(from, from + empty.len())];
     }
-    let half = empty.len() / 2;
     let mut all = pairs(&empty[..half], from);
     all.extend(pairs(&empty[half..], from + half));
     all
@@ -476,12 +418,7 @@ impl Filter {
         }
         let mut empty = vec![false; 1 << levels];
         follow(words, 3, &mut empty)?;
-        let filter = Filter {
-            levels,
-            room,
-            hand,
-            empty,
-        };
+        let filter = Filter { levels, room, hand, empty };
         let layout = filter.layout();
         let same = layout.len() <= words.len() && words[..layout.len()] == layout[..];
         (same && splits(&filter.empty) <= room as usize).then_some(filter)
@@ -489,10 +426,7 @@ impl Filter {
 }
 
 fn meant(words: &[u32]) -> Result<Filter, No> {
-    Filter::meant(words).ok_or(No {
-        number: 8,
-        needed: 0,
-    })
+    Filter::meant(words).ok_or(No { number: 8, needed: 0 })
 }
 
 fn meant_with_key(words: &[u32], key: u32) -> Result<Filter, No> {
@@ -524,18 +458,11 @@ pub fn fresh(levels: u32, room: u32, space: usize) -> Result<Filter, No> {
     if (space as u64) < filter_words(room) {
         return short(filter_words(room) as usize);
     }
-    Ok(Filter {
-        levels,
-        room,
-        hand: 0,
-        empty: vec![false; 1 << levels],
-    })
+    Ok(Filter { levels, room, hand: 0, empty: vec![false; 1 << levels] })
 }
 
 fn denies(filter: &Filter, low: u32, high: u32) -> bool {
-    filter.empty[low as usize..=high as usize]
-        .iter()
-        .all(|&e| e)
+    filter.empty[low as usize..=high as usize].iter().all(|&e| e)
 }
 
 /// Does it say look?
@@ -566,19 +493,12 @@ pub fn depart(words: &[u32], key: u32) -> Result<(), No> {
 pub fn forget(words: &[u32]) -> Result<Filter, No> {
     let mut filter = meant(words)?;
     let pairs = pairs(&filter.empty, 0);
-    let ahead = pairs
-        .iter()
-        .find(|(from, _)| filter.hand as usize <= *from)
-        .or(pairs.first());
+    let ahead = pairs.iter().find(|(from, _)| filter.hand as usize <= *from).or(pairs.first());
     let Some(&(from, to)) = ahead else {
         return no(10);
     };
     filter.empty[from..to].fill(false);
-    filter.hand = if to == filter.empty.len() {
-        0
-    } else {
-        to as u32
-    };
+    filter.hand = if to == filter.empty.len() { 0 } else { to as u32 };
     Ok(filter)
 }
 
@@ -586,12 +506,7 @@ pub fn forget(words: &[u32]) -> Result<Filter, No> {
 pub fn read(words: &[u32]) -> Result<[u64; 4], No> {
     let filter = meant(words)?;
     let splits = splits(&filter.empty) as u64;
-    Ok([
-        filter.levels as u64,
-        filter.room as u64,
-        filter.hand as u64,
-        splits,
-    ])
+    Ok([filter.levels as u64, filter.room as u64, filter.hand as u64, splits])
 }
 
 // ---------------------------------------------------------------- search with both
@@ -618,11 +533,7 @@ impl Outcome {
 
 /// The widest range of keys around low to high that no column value lies in; there is none if one lies in that range.
 pub fn gap(column: &[i32], keys: u32, low: u32, high: u32) -> Option<(u32, u32)> {
-    let values: Vec<u32> = column
-        .iter()
-        .filter(|&&v| 0 <= v && v < keys as i32)
-        .map(|&v| v as u32)
-        .collect();
+    let values: Vec<u32> = column.iter().filter(|&&v| 0 <= v && v < keys as i32).map(|&v| v as u32).collect();
     if values.iter().any(|&v| low <= v && v <= high) {
         return None;
     }
@@ -647,15 +558,7 @@ pub fn guarded(
     if denies(&filter, low, high) {
         return Ok((Outcome::Denied, Found::default()));
     }
-    let found = search(
-        column,
-        borders,
-        imprints,
-        dictionary,
-        low as i32,
-        high as i32,
-        space,
-    )?;
+    let found = search(column, borders, imprints, dictionary, low as i32, high as i32, space)?;
     if !found.ids.is_empty() {
         return Ok((Outcome::Found, found));
     }
