@@ -1,4 +1,5 @@
 //! Each number that a call can answer arrives as the error that names it, in the order of document 01's checks.
+#![allow(clippy::reversed_empty_ranges)]
 use miguzoryane::*;
 
 const A: Index<'static> = Index { borders: &[5, 20], imprints: &[2, 4], dictionary: &[16777218, 1] };
@@ -11,7 +12,6 @@ fn column_a() -> Vec<i32> {
 fn of_the_index() {
     let column = column_a();
     let mut ids = [0; 40];
-    #[allow(clippy::reversed_empty_ranges)]
     let backwards = 6..=5;
     let long = vec![0; ROWS_AT_MOST + 1];
     let equal = Index { borders: &[5, 5], ..A };
@@ -43,7 +43,6 @@ fn of_a_position() {
 
 #[test]
 fn of_the_filter() {
-    #[allow(clippy::reversed_empty_ranges)]
     let backwards = 6..=5;
     let mut filter = Filter::fresh(4, 6).unwrap();
     assert_eq!(Filter::fresh(0, 4096).unwrap_err(), Error::BadLevels);
