@@ -1,0 +1,102 @@
+//! Build and search beside an ordinary Rust scan, in one run, as ratios; prints a table in markdown, its progress on standard error.
+//! `MGZ_BENCH_ROWS`, `MGZ_BENCH_REPS` and `MGZ_BENCH_CALLS` make it shorter or longer.
+mod filters;
+mod inputs;
+
+use miguzoryane::{search, IndexBuf, ROWS_AT_MOST};
+use std::hint::black_box;
+use std::time::Instant;
+
+fn setting(name: &str, usual: usize) -> usize {
+    std::env::var(name).map_or(usual, |s| s.parse().unwrap_or_else(|_| panic!("{name} is no number")))
+}
+
+/// Seconds that a call takes.
+fn seconds<T>(f: impl FnOnce() -> T) -> (f64, T) {
+    let start = Instant::now();
+    let answer = black_box(f());
+    (start.elapsed().as_secs_f64(), answer)
+}
+
+/// The ordinary scan: every value compared, matching rows pushed into a space that is there already.
+#[inline(never)]
+fn scan(column: &[i32], low: i32, high: i32, rows: &mut Vec<u32>) {
+    rows.clear();
+    for (row, &value) in column.iter().enumerate() {
+        if low <= value && value <= high {
+            rows.push(row as u32);
+        }
+    }
+}
+
+struct Spaces {
+    ids: Vec<u32>,
+    scanned: Vec<u32>,
+}
+
+/// One range of one column: best seconds of the search and of the scan, and what the search looked at.
+fn measure(column: &[i32], index: &IndexBuf, (low, high): (i32, i32), reps: usize, spaces: &mut Spaces) -> String {
+    let (mut ours, mut theirs) = (f64::MAX, f64::MAX);
+    let mut looked = String::new();
+    for _ in 0..reps {
+        let (took, found) = seconds(|| search(column, index.as_index(), low..=high, &mut spaces.ids).expect("a good index"));
+        ours = ours.min(took);
+        let (took, ()) = seconds(|| scan(column, low, high, &mut spaces.scanned));
+        theirs = theirs.min(took);
+        assert!(*found.rows == spaces.scanned[..], "search and scan differ");
+        let lines = miguzoryane::lines(column.len()) as f64 / 100.0;
+        let counts = found.counts;
+        let compared = counts.compared as f64 / 16.0 / lines;
+        looked = format!("{:.1}% / {:.1}% / {compared:.1}%", counts.skipped as f64 / lines, counts.whole as f64 / lines);
+    }
+    let rows = spaces.scanned.len();
+    let ratio = ours / theirs;
+    format!("{rows} | {:.3} | {:.3} | **{ratio:.3}** | {looked}", ours * 1e3, theirs * 1e3)
+}
+
+fn machine() -> String {
+    let text = std::fs::read_to_string("/proc/cpuinfo").unwrap_or_default();
+    let line = |name: &str| text.lines().find(|line| line.starts_with(name)).and_then(|line| line.split(": ").nth(1));
+    let model = line("model name").or(line("CPU part")).unwrap_or("unknown");
+    let cores = std::thread::available_parallelism().map_or(0, |n| n.get());
+    format!("{}, processor {model}, {cores} cores", std::env::consts::ARCH)
+}
+
+fn main() {
+    let rows = setting("MGZ_BENCH_ROWS", ROWS_AT_MOST);
+    let reps = setting("MGZ_BENCH_REPS", 9);
+    let calls = setting("MGZ_BENCH_CALLS", 2000);
+    let mut spaces = Spaces { ids: vec![1; rows], scanned: Vec::with_capacity(rows) };
+    println!("{rows} rows, best of {reps}; {}.\n", machine());
+    let mut built = String::new();
+    println!("| column | range hits | rows | search, ms | scan, ms | search / scan | lines skipped / whole / compared |");
+    println!("|---|---|---|---|---|---|---|");
+    for name in inputs::COLUMNS {
+        eprintln!("{name}: making {rows} rows");
+        let column = inputs::column(name, rows);
+        let mut sorted = column.clone();
+        sorted.sort_unstable();
+        eprintln!("{name}: building, {} times", reps.min(5));
+        let (mut best, mut index) = seconds(|| IndexBuf::build(&column).expect("not too long"));
+        for _ in 1..reps.min(5) {
+            let (took, again) = seconds(|| IndexBuf::build(&column).expect("not too long"));
+            best = best.min(took);
+            index = again;
+        }
+        let least = (0..reps).map(|_| seconds(|| scan(&column, 1, 0, &mut spaces.scanned)).0).fold(f64::MAX, f64::min);
+        let parts = index.as_index();
+        let bytes = 4 * parts.borders.len() + 8 * parts.imprints.len() + 4 * parts.dictionary.len();
+        let share = 100.0 * bytes as f64 / (4 * rows) as f64;
+        let per_row = best * 1e9 / rows as f64;
+        built += &format!("| {name} | {:.1} | {per_row:.2} | {:.1} | {share:.2}% |\n", best * 1e3, best / least);
+        for (percent, of_million) in [("0.001%", 10), ("0.1%", 1_000), ("0.9%", 9_000), ("10%", 100_000), ("50%", 500_000)] {
+            eprintln!("{name}: ranges of {percent}, {reps} times");
+            let range = inputs::range(&sorted, of_million);
+            println!("| {name} | {percent} | {} |", measure(&column, &index, range, reps, &mut spaces));
+        }
+    }
+    println!("\n| column | build, ms | ns per row | build / scan of an empty range | index, of the column |");
+    println!("|---|---|---|---|---|");
+    println!("{built}");
+    filters::measure(reps, calls);
+}

@@ -1,0 +1,164 @@
+/* Miguzoryane: the rows of a column whose values lie in a range, from C.
+ *
+ * Every call answers a number (mgz_number below; 0 is done). An answer but 0 changes no lent space. Every call writes its
+ * `out` words, always all of them: at any number but MGZ_DONE they are 0, but for `needed`, which MGZ_SPACE_SHORT fills with the length
+ * the first short space would need; at MGZ_DONE `needed` is 0. MGZ_DONE changes only the words that the answer fills.
+ *
+ * A space is a pointer and a number of elements. The caller keeps every space; the library allocates nothing, keeps no
+ * pointer after a call, has no global state, and returns from every call.
+ * For the caller to see to, since a pointer can't be tested: no pointer is NULL (where the length is 0 as well), each is aligned for
+ * its type and good for its length, and no space that is written overlaps another one handed to the same call.
+ */
+#ifndef MIGUZORYANE_H
+#define MIGUZORYANE_H
+
+#include <stddef.h>
+#include <stdint.h>
+
+#ifdef __cplusplus
+extern "C" {
+#endif
+
+/* The numbers, document 01's. */
+enum mgz_number {
+    MGZ_DONE = 0,
+    MGZ_LOW_ABOVE_HIGH = 1,     /* the low end is above the high end */
+    MGZ_COLUMN_TOO_LONG = 2,    /* more than MGZ_ROWS_AT_MOST rows, or MGZ_LINES_AT_MOST lines */
+    MGZ_NOT_AN_INDEX = 3,       /* not a packed form for so many lines; pack: a word no line could have; step: a bad position */
+    MGZ_SPACE_SHORT = 4,        /* a lent space is shorter than the answer needs; `needed` is the length it needs */
+    MGZ_BAD_BORDERS = 5,        /* over MGZ_BORDERS_AT_MOST borders, or not strictly rising */
+    MGZ_BAD_LEVELS = 6,         /* levels outside 1 to MGZ_LEVELS_AT_MOST */
+    MGZ_NO_KEY = 7,             /* a key above 2^levels - 1 */
+    MGZ_NOT_A_FILTER = 8,       /* the words are not the layout of a smallest tree */
+    MGZ_NO_ROOM = 9,            /* learning would need more splits than the room */
+    MGZ_NOTHING_TO_FORGET = 10, /* the tree is a single leaf */
+    MGZ_ROOM_TOO_LARGE = 11     /* room above MGZ_ROOM_AT_MOST */
+};
+
+#define MGZ_ROWS_PER_LINE 16
+#define MGZ_ROWS_AT_MOST 16777216
+#define MGZ_LINES_AT_MOST 1048576
+#define MGZ_BORDERS_AT_MOST 63
+#define MGZ_LEVELS_AT_MOST 20
+#define MGZ_ROOM_AT_MOST 4095
+
+/* Lines of a column of so many rows. An imprint and a dictionary space of this length are always long enough. */
+#define MGZ_LINES(rows) (((rows) + (MGZ_ROWS_PER_LINE - 1)) / MGZ_ROWS_PER_LINE)
+
+/* Lengths of the three parts of a built index. */
+struct mgz_built {
+    uint64_t needed;
+    uint64_t borders;
+    uint64_t imprints;
+    uint64_t dictionary;
+};
+
+/* Lengths of the two parts of a packed list. */
+struct mgz_packed {
+    uint64_t needed;
+    uint64_t imprints;
+    uint64_t dictionary;
+};
+
+/* A step: the imprint of the line, and the position after it. At the end `ended` is 1, `imprint` 0, and the position stays. */
+struct mgz_stepped {
+    uint64_t ended;
+    uint64_t imprint;
+    uint64_t entry;
+    uint64_t place;
+    uint64_t number;
+};
+
+/* How many rows were listed; lines skipped, lines taken whole, values compared. */
+struct mgz_found {
+    uint64_t needed;
+    uint64_t rows;
+    uint64_t skipped;
+    uint64_t whole;
+    uint64_t compared;
+};
+
+/* What a filter's words say of it. */
+struct mgz_filter {
+    uint64_t levels;
+    uint64_t room;
+    uint64_t hand;
+    uint64_t splits;
+};
+
+enum mgz_outcome {
+    MGZ_DENIED = 0,          /* the filter knows that the range is empty: nothing was looked at */
+    MGZ_FOUND = 1,           /* rows were listed */
+    MGZ_EMPTY_LEARNT = 2,    /* no row, and the filter has learnt the gap */
+    MGZ_EMPTY_NOT_LEARNT = 3 /* no row, and the filter stands as it was */
+};
+
+/* A search with both. */
+struct mgz_guarded {
+    uint64_t outcome; /* enum mgz_outcome */
+    uint64_t needed;
+    uint64_t rows;
+    uint64_t skipped;
+    uint64_t whole;
+    uint64_t compared;
+};
+
+/* Builds the index of a column: its borders, the imprints kept and the dictionary, at the front of the three spaces. An index is handed to the
+ * other calls as exactly its words, so with the lengths `out` gives. Numbers, in the order they are checked: 2, 4. */
+uint32_t mgz_build(const int32_t *column, size_t column_length, int32_t *borders, size_t borders_length, uint64_t *imprints,
+                   size_t imprints_length, uint32_t *dictionary, size_t dictionary_length, struct mgz_built *out);
+
+/* Packs a list of imprints, one per line. Numbers: 2, 5, 3, 4. */
+uint32_t mgz_pack(const uint64_t *list, size_t list_length, const int32_t *borders, size_t borders_length, uint64_t *imprints,
+                  size_t imprints_length, uint32_t *dictionary, size_t dictionary_length, struct mgz_packed *out);
+
+/* The list of imprints of an index for `lines` lines. Numbers: 2, 5, 3, 4. */
+uint32_t mgz_unpack(const int32_t *borders, size_t borders_length, const uint64_t *imprints, size_t imprints_length,
+                    const uint32_t *dictionary, size_t dictionary_length, uint64_t lines, uint64_t *list, size_t list_length,
+                    uint64_t *needed);
+
+/* One step of reading an index line by line, from a position that starts as 0, 0, 0. Number: 3, for a bad position. */
+uint32_t mgz_step(const uint32_t *dictionary, size_t dictionary_length, const uint64_t *imprints, size_t imprints_length, uint64_t entry,
+                  uint64_t place, uint64_t number, struct mgz_stepped *out);
+
+/* The rows whose values lie in low to high, both included, rising, at the front of `ids`. Numbers: 2, 5, 3, 1, 4. */
+uint32_t mgz_search(const int32_t *column, size_t column_length, const int32_t *borders, size_t borders_length, const uint64_t *imprints,
+                    size_t imprints_length, const uint32_t *dictionary, size_t dictionary_length, int32_t low, int32_t high,
+                    uint32_t *ids, size_t ids_length, struct mgz_found *out);
+
+/* How many words a filter of this room needs: 2 x room + 4. More may be lent; those behind are never changed. */
+uint64_t mgz_filter_words(uint32_t room);
+
+/* A filter of keys 0 to 2^levels - 1 that remembers nothing. `needed` is as above. Numbers: 6, 11, 4. */
+uint32_t mgz_filter_fresh(uint32_t levels, uint32_t room, uint32_t *words, size_t words_length, uint64_t *needed);
+
+/* May the range low to high hold a sample? `look` is 0 if the filter remembers it as empty (denied), else 1. Numbers: 8, 7, 1. */
+uint32_t mgz_filter_ask(const uint32_t *words, size_t words_length, uint32_t low, uint32_t high, uint32_t *look);
+
+/* Remembers the range low to high as empty. Numbers: 8, 7, 1, 9. */
+uint32_t mgz_filter_learn(uint32_t *words, size_t words_length, uint32_t low, uint32_t high);
+
+/* A sample with this key has come: call it once the sample is in the column. Numbers: 8, 7. */
+uint32_t mgz_filter_arrive(uint32_t *words, size_t words_length, uint32_t key);
+
+/* A sample with this key has gone; changes nothing, since another row may carry the same key. Numbers: 8, 7. */
+uint32_t mgz_filter_depart(const uint32_t *words, size_t words_length, uint32_t key);
+
+/* Forgets one pair of leaves, to gain room. Numbers: 8, 10. */
+uint32_t mgz_filter_forget(uint32_t *words, size_t words_length);
+
+/* The filter's levels, room, hand, and splits in use. Number: 8. */
+uint32_t mgz_filter_read(const uint32_t *words, size_t words_length, struct mgz_filter *out);
+
+/* The search with both, over the time column in minutes: asks the filter first, searches if it says look, and lets it learn the gap if no
+ * row is there. Filter words change at MGZ_EMPTY_LEARNT only. Numbers: 8, 7, 1, 2, 5, 3, and 4 if the filter says look. */
+uint32_t mgz_guarded_search(uint32_t *words, size_t words_length, const int32_t *column, size_t column_length, const int32_t *borders,
+                            size_t borders_length, const uint64_t *imprints, size_t imprints_length, const uint32_t *dictionary,
+                            size_t dictionary_length, uint32_t low, uint32_t high, uint32_t *ids, size_t ids_length,
+                            struct mgz_guarded *out);
+
+#ifdef __cplusplus
+}
+#endif
+
+#endif

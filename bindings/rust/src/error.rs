@@ -1,0 +1,93 @@
+use std::fmt;
+
+/// Every answer but "done". A call that gives one has changed no lent space.
+#[derive(Clone, Copy, Debug, PartialEq, Eq, Hash)]
+pub enum Error {
+    /// 1: the low end of the range is above the high end.
+    LowAboveHigh,
+    /// 2: the column has more than [`ROWS_AT_MOST`](crate::ROWS_AT_MOST) rows, or the list more than [`LINES_AT_MOST`](crate::LINES_AT_MOST) lines.
+    ColumnTooLong,
+    /// 3: the words are not a packed form for so many lines; of `pack`: a word that no line could have; of a step: a bad position.
+    NotAnIndex,
+    /// 4: a lent space is shorter than the answer needs. The first short one in the order borders, imprints, dictionary counts.
+    SpaceShort {
+        /// The length that this space needs.
+        needed: usize,
+    },
+    /// 5: over [`BORDERS_AT_MOST`](crate::BORDERS_AT_MOST) borders, or borders that are not strictly rising.
+    BadBorders,
+    /// 6: levels outside 1 to [`LEVELS_AT_MOST`](crate::LEVELS_AT_MOST).
+    BadLevels,
+    /// 7: a key above 2^levels - 1.
+    NoKey,
+    /// 8: the words are not the layout of a smallest tree.
+    NotAFilter,
+    /// 9: learning would need more splits than the filter has room for.
+    NoRoom,
+    /// 10: the tree is a single leaf: there is nothing to forget.
+    NothingToForget,
+    /// 11: room above [`ROOM_AT_MOST`](crate::ROOM_AT_MOST).
+    RoomTooLarge,
+}
+
+impl Error {
+    /// The number that stands for it at the boundary.
+    ///
+    /// ```
+    /// assert_eq!(miguzoryane::Error::SpaceShort { needed: 40 }.number(), 4);
+    /// ```
+    pub fn number(self) -> u32 {
+        match self {
+            Error::LowAboveHigh => 1,
+            Error::ColumnTooLong => 2,
+            Error::NotAnIndex => 3,
+            Error::SpaceShort { .. } => 4,
+            Error::BadBorders => 5,
+            Error::BadLevels => 6,
+            Error::NoKey => 7,
+            Error::NotAFilter => 8,
+            Error::NoRoom => 9,
+            Error::NothingToForget => 10,
+            Error::RoomTooLarge => 11,
+        }
+    }
+
+    /// The answer of a call: nothing for 0, else what the number stands for.
+    pub(crate) fn check(number: u32, needed: u64) -> Result<(), Error> {
+        Err(match number {
+            0 => return Ok(()),
+            1 => Error::LowAboveHigh,
+            2 => Error::ColumnTooLong,
+            3 => Error::NotAnIndex,
+            4 => Error::SpaceShort { needed: needed as usize },
+            5 => Error::BadBorders,
+            6 => Error::BadLevels,
+            7 => Error::NoKey,
+            8 => Error::NotAFilter,
+            9 => Error::NoRoom,
+            10 => Error::NothingToForget,
+            11 => Error::RoomTooLarge,
+            other => unreachable!("no call answers {other}"),
+        })
+    }
+}
+
+impl fmt::Display for Error {
+    fn fmt(&self, f: &mut fmt::Formatter<'_>) -> fmt::Result {
+        match self {
+            Error::LowAboveHigh => write!(f, "the low end is above the high end"),
+            Error::ColumnTooLong => write!(f, "the column has too many rows"),
+            Error::NotAnIndex => write!(f, "the words are no index of a column of this length"),
+            Error::SpaceShort { needed } => write!(f, "a lent space is too short: {needed} elements are needed"),
+            Error::BadBorders => write!(f, "the borders are too many or not strictly rising"),
+            Error::BadLevels => write!(f, "the levels are outside 1 to 20"),
+            Error::NoKey => write!(f, "a key is above the filter's greatest"),
+            Error::NotAFilter => write!(f, "the words are no filter"),
+            Error::NoRoom => write!(f, "learning needs more splits than the filter has room for"),
+            Error::NothingToForget => write!(f, "there is nothing to forget"),
+            Error::RoomTooLarge => write!(f, "the room is above 4,095"),
+        }
+    }
+}
+
+impl std::error::Error for Error {}

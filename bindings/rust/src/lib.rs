@@ -1,0 +1,41 @@
+//! The rows of a column whose values lie in a range, from a proved library.
+//!
+//! Two parts and one above them: **column imprints** ([`build`], [`search`]: an index that says of every 16 rows which bins their
+//! values lie in), an **adaptive range filter** ([`Filter`]: a memory of ranges known to be empty), and the **search with both**
+//! ([`guarded_search`]).
+//!
+//! The calls take slices and write into the caller's own spaces; [`IndexBuf`] and [`Filter::fresh`] allocate them where that is handier.
+//! Whatever is refused, with an [`Error`], has changed nothing. Damaged words are no danger: an index or a filter that isn't one is refused.
+//!
+//! ```
+//! use miguzoryane::{search, IndexBuf};
+//!
+//! let ph: Vec<i32> = (0..1000).map(|row| 70 + row % 7).collect();
+//! let index = IndexBuf::build(&ph)?;
+//! let mut ids = vec![0; ph.len()];
+//! let found = search(&ph, index.as_index(), 75..=76, &mut ids)?;
+//! assert_eq!(found.rows[..4], [5, 6, 12, 13]);
+//! # Ok::<(), miguzoryane::Error>(())
+//! ```
+#![warn(missing_docs)]
+mod error;
+mod face;
+mod filter;
+mod index;
+
+pub use error::Error;
+pub use filter::{filter_words, guarded_search, Filter, FilterState, Outcome};
+pub use index::{build, lines, pack, search, unpack, Counts, Found, Index, IndexBuf, Lines, Position};
+
+/// A line is this many rows; the last one of a column may be shorter.
+pub const ROWS_PER_LINE: usize = 16;
+/// The longest column.
+pub const ROWS_AT_MOST: usize = 16_777_216;
+/// The lines of the longest column.
+pub const LINES_AT_MOST: usize = 1_048_576;
+/// The most borders that an index has.
+pub const BORDERS_AT_MOST: usize = 63;
+/// The most levels that a filter has.
+pub const LEVELS_AT_MOST: u32 = 20;
+/// The most splits that a filter has room for.
+pub const ROOM_AT_MOST: u32 = 4_095;

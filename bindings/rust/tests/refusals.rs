@@ -1,0 +1,97 @@
+//! Each number that a call can answer arrives as the error that names it, in the order of document 01's checks.
+#![allow(clippy::reversed_empty_ranges)]
+use miguzoryane::*;
+
+const A: Index<'static> = Index { borders: &[5, 20], imprints: &[2, 4], dictionary: &[16777218, 1] };
+
+fn column_a() -> Vec<i32> {
+    [[5; 32].as_slice(), &[20; 8]].concat()
+}
+
+#[test]
+fn of_the_index() {
+    let column = column_a();
+    let mut ids = [0; 40];
+    let backwards = 6..=5;
+    let long = vec![0; ROWS_AT_MOST + 1];
+    let equal = Index { borders: &[5, 5], ..A };
+    let damaged = Index { dictionary: &[3], ..A };
+    assert_eq!(IndexBuf::build(&long), Err(Error::ColumnTooLong));
+    assert_eq!(build(&long, &mut [], &mut [], &mut []), Err(Error::ColumnTooLong));
+    assert_eq!(search(&long, damaged, backwards.clone(), &mut ids), Err(Error::ColumnTooLong));
+    assert_eq!(search(&column, equal, backwards.clone(), &mut ids), Err(Error::BadBorders));
+    assert_eq!(search(&column, damaged, backwards.clone(), &mut ids), Err(Error::NotAnIndex));
+    assert_eq!(search(&column, A, backwards, &mut ids), Err(Error::LowAboveHigh));
+    assert_eq!(search(&column, A, 0..=30, &mut ids[..39]), Err(Error::SpaceShort { needed: 40 }));
+    assert_eq!(build(&column, &mut [0; 2], &mut [0; 1], &mut [0; 1]), Err(Error::SpaceShort { needed: 2 }));
+    assert_eq!(unpack(A, LINES_AT_MOST + 1, &mut []), Err(Error::ColumnTooLong));
+    assert_eq!(unpack(A, 3, &mut [0; 2]), Err(Error::SpaceShort { needed: 3 }));
+    assert_eq!(pack(&vec![1; LINES_AT_MOST + 1], &[], &mut [], &mut []), Err(Error::ColumnTooLong));
+    assert_eq!(IndexBuf::build(&column).unwrap().as_index(), A);
+}
+
+#[test]
+fn of_a_position() {
+    let bad = Position { entry: 3, place: 0, number: 0 };
+    let mut lines = Lines::from(A, bad);
+    assert_eq!(lines.next(), Some(Err(Error::NotAnIndex)));
+    assert_eq!(lines.position(), bad);
+    let mut ended = Lines::from(A, Position { entry: 2, place: 9, number: 9 });
+    assert_eq!(ended.next(), None);
+    assert_eq!(ended.next(), None);
+}
+
+#[test]
+fn of_the_filter() {
+    let backwards = 6..=5;
+    let mut filter = Filter::fresh(4, 6).unwrap();
+    assert_eq!(Filter::fresh(0, 4096).unwrap_err(), Error::BadLevels);
+    assert_eq!(Filter::fresh(1, 4096).unwrap_err(), Error::RoomTooLarge);
+    assert_eq!(Filter::fresh_in(1, 2, [0; 7]).unwrap_err(), Error::SpaceShort { needed: 8 });
+    assert_eq!(filter.denies(16..=5), Err(Error::NoKey));
+    assert_eq!(filter.denies(backwards.clone()), Err(Error::LowAboveHigh));
+    assert_eq!(filter.learn(backwards), Err(Error::LowAboveHigh));
+    assert_eq!(filter.learn(7..=8), Err(Error::NoRoom));
+    assert_eq!(filter.arrive(16), Err(Error::NoKey));
+    assert_eq!(filter.depart(16), Err(Error::NoKey));
+    assert_eq!(filter.depart(15), Ok(()));
+    assert_eq!(filter.forget(), Err(Error::NothingToForget));
+    assert_eq!(filter.state(), Ok(FilterState { levels: 4, room: 6, hand: 0, splits: 0 }));
+    let mut words = filter.into_words();
+    words[3] = 7;
+    assert_eq!(Filter::from_words(words).unwrap_err(), Error::NotAFilter);
+}
+
+#[test]
+fn of_the_search_with_both() {
+    let column = column_a();
+    let mut ids = [0; 40];
+    let mut filter = Filter::fresh(5, 0).unwrap();
+    assert_eq!(guarded_search(&mut filter, &column, A, 3..=32, &mut ids), Err(Error::NoKey));
+    assert_eq!(guarded_search(&mut filter, &column, A, 3..=20, &mut []), Err(Error::SpaceShort { needed: 40 }));
+    let counts = Counts { skipped: 1, whole: 0, compared: 32 };
+    assert_eq!(guarded_search(&mut filter, &column, A, 6..=19, &mut ids), Ok(Outcome::EmptyNotLearnt(counts)));
+    let long = vec![0; ROWS_AT_MOST + 1];
+    assert_eq!(guarded_search(&mut filter, &long, A, 6..=19, &mut ids), Err(Error::ColumnTooLong));
+}
+
+#[test]
+fn numbers() {
+    let all = [
+        Error::LowAboveHigh,
+        Error::ColumnTooLong,
+        Error::NotAnIndex,
+        Error::SpaceShort { needed: 1 },
+        Error::BadBorders,
+        Error::BadLevels,
+        Error::NoKey,
+        Error::NotAFilter,
+        Error::NoRoom,
+        Error::NothingToForget,
+        Error::RoomTooLarge,
+    ];
+    for (error, number) in all.into_iter().zip(1..) {
+        assert_eq!(error.number(), number);
+        assert!(!error.to_string().is_empty());
+    }
+}

@@ -1,0 +1,349 @@
+//! Tests of the tests: a stand-in for the library under the library's own names, made of the plain implementation.
+//! `MGZ_FAULT` plants one fault; `tests/faults/run` shows that the tests catch each. Never linked into anything else.
+#![allow(clippy::missing_safety_doc, clippy::too_many_arguments)]
+#[allow(dead_code)]
+#[path = "../../src/plain.rs"]
+mod plain;
+use plain::{Filter, Found, Index, No, Outcome, Position};
+use std::slice::{from_raw_parts, from_raw_parts_mut};
+use std::sync::OnceLock;
+
+fn fault(name: &str) -> bool {
+    static PLANTED: OnceLock<String> = OnceLock::new();
+    PLANTED.get_or_init(|| std::env::var("MGZ_FAULT").unwrap_or_default()) == name
+}
+
+unsafe fn read<'a, T>(at: *const T, length: usize) -> &'a [T] {
+    unsafe { from_raw_parts(at, length) }
+}
+
+unsafe fn lent<'a, T>(at: *mut T, length: usize) -> &'a mut [T] {
+    unsafe { from_raw_parts_mut(at, length) }
+}
+
+fn put<T: Copy>(space: &mut [T], words: &[T]) {
+    space[..words.len()].copy_from_slice(words);
+}
+
+fn number<T>(answer: &Result<T, No>) -> u32 {
+    answer.as_ref().err().map_or(0, |no| no.number)
+}
+
+fn needed<T>(answer: &Result<T, No>) -> u64 {
+    answer.as_ref().err().map_or(0, |no| no.needed)
+}
+
+#[no_mangle]
+pub unsafe extern "C" fn mgz_build(
+    column: *const i32,
+    n: usize,
+    borders: *mut i32,
+    b: usize,
+    imprints: *mut u64,
+    i: usize,
+    dictionary: *mut u32,
+    d: usize,
+    out: *mut u64,
+) -> u32 {
+    let (column, out) = unsafe { (read(column, n), lent(out, 4)) };
+    let (borders, imprints, dictionary) = unsafe { (lent(borders, b), lent(imprints, i), lent(dictionary, d)) };
+    let mut answer = plain::build(column, [b, i, d]);
+    if fault("last-short-line") && answer.is_ok() && n % 16 != 0 {
+        let whole = &column[..n - n % 16];
+        let kept = answer.unwrap().borders;
+        let (imprints, dictionary) = plain::packing(&plain::line_imprints(whole, &kept));
+        answer = Ok(Index { borders: kept, imprints, dictionary });
+    }
+    if fault("short-dictionary-first") && number(&answer) == 4 {
+        let index = plain::index(column);
+        if d < index.dictionary.len() {
+            answer = Err(No { number: 4, needed: index.dictionary.len() as u64 });
+        }
+    }
+    *out.first_chunk_mut().unwrap() = [needed(&answer), 0, 0, 0];
+    let Ok(index) = &answer else {
+        if fault("build-writes-before-refusal") && b != 0 {
+            borders[0] = column.first().copied().unwrap_or(0);
+        }
+        return number(&answer);
+    };
+    out[1..].copy_from_slice(&[index.borders.len() as u64, index.imprints.len() as u64, index.dictionary.len() as u64]);
+    put(borders, &index.borders);
+    put(imprints, &index.imprints);
+    put(dictionary, &index.dictionary);
+    if fault("build-writes-past-answer") && index.borders.len() < b {
+        borders[index.borders.len()] = i32::MAX;
+    }
+    0
+}
+
+#[no_mangle]
+pub unsafe extern "C" fn mgz_pack(
+    list: *const u64,
+    n: usize,
+    borders: *const i32,
+    b: usize,
+    imprints: *mut u64,
+    i: usize,
+    dictionary: *mut u32,
+    d: usize,
+    out: *mut u64,
+) -> u32 {
+    let (list, borders, out) = unsafe { (read(list, n), read(borders, b), lent(out, 3)) };
+    let (imprints, dictionary) = unsafe { (lent(imprints, i), lent(dictionary, d)) };
+    let mut answer = plain::pack(list, borders, [i, d]);
+    if fault("pack-takes-zero") && number(&answer) == 3 && list.contains(&0) {
+        answer = plain::pack(&list.iter().map(|&w| w.max(1)).collect::<Vec<u64>>(), borders, [i, d]);
+    }
+    let (kept, entries) = answer.clone().unwrap_or_default();
+    out.copy_from_slice(&[needed(&answer), kept.len() as u64, entries.len() as u64]);
+    put(imprints, &kept);
+    put(dictionary, &entries);
+    number(&answer)
+}
+
+/// What a dictionary says once bits 25 to 31 are passed over.
+fn lax(dictionary: &[u32]) -> Vec<u32> {
+    dictionary.iter().map(|e| if fault("high-bits-pass") { e & 0x1FF_FFFF } else { *e }).collect()
+}
+
+#[no_mangle]
+pub unsafe extern "C" fn mgz_unpack(
+    borders: *const i32,
+    b: usize,
+    imprints: *const u64,
+    i: usize,
+    dictionary: *const u32,
+    d: usize,
+    lines: u64,
+    list: *mut u64,
+    n: usize,
+    out: *mut u64,
+) -> u32 {
+    let (borders, imprints, dictionary) = unsafe { (read(borders, b), read(imprints, i), read(dictionary, d)) };
+    let answer = plain::unpack(borders, imprints, &lax(dictionary), lines, n);
+    put(unsafe { lent(list, n) }, answer.as_deref().unwrap_or(&[]));
+    unsafe { *out = needed(&answer) };
+    number(&answer)
+}
+
+#[no_mangle]
+pub unsafe extern "C" fn mgz_step(
+    dictionary: *const u32,
+    d: usize,
+    imprints: *const u64,
+    i: usize,
+    entry: u64,
+    place: u64,
+    number_: u64,
+    out: *mut u64,
+) -> u32 {
+    let (dictionary, imprints, out) = unsafe { (read(dictionary, d), read(imprints, i), lent(out, 5)) };
+    let answer = plain::step(dictionary, imprints, Position { entry, place, number: number_ });
+    out.fill(0);
+    if let Ok((imprint, after)) = answer {
+        out.copy_from_slice(&[imprint.is_none() as u64, imprint.unwrap_or(0), after.entry, after.place, after.number]);
+        if fault("end-moves") && imprint.is_none() {
+            out[3] = 0;
+        }
+    }
+    number(&answer)
+}
+
+fn searched(column: &[i32], borders: &[i32], imprints: &[u64], dictionary: &[u32], low: i32, high: i32, space: usize) -> Result<Found, No> {
+    if fault("low-above-high-first") && high < low && column.len() <= plain::ROWS_AT_MOST {
+        return Err(No { number: 1, needed: 0 });
+    }
+    let mut found = plain::search(column, borders, imprints, &lax(dictionary), low, high, space)?;
+    if fault("high-left-out") {
+        let before = found.ids.len();
+        found.ids.retain(|&row| column[row as usize] != high || high == low || found.compared == 0);
+        assert!(found.ids.len() <= before);
+    }
+    if fault("made-up-compared") && found.compared != 0 {
+        found.compared = 16 * (plain::lines(column.len()) as u64 - found.skipped - found.whole);
+    }
+    if fault("sixteen-ids") && column.len() % 16 != 0 && found.ids.last() == Some(&(column.len() as u32 - 1)) && found.whole != 0 {
+        let to = (column.len() as u32).div_ceil(16) * 16;
+        found.ids.extend((column.len() as u32..to).take(space - found.ids.len()));
+    }
+    if fault("shift-by-64") && borders.len() == 63 && borders[62] <= high {
+        found.whole = 0;
+    }
+    Ok(found)
+}
+
+#[no_mangle]
+pub unsafe extern "C" fn mgz_search(
+    column: *const i32,
+    n: usize,
+    borders: *const i32,
+    b: usize,
+    imprints: *const u64,
+    i: usize,
+    dictionary: *const u32,
+    d: usize,
+    low: i32,
+    high: i32,
+    ids: *mut u32,
+    m: usize,
+    out: *mut u64,
+) -> u32 {
+    let (column, ids, out) = unsafe { (read(column, n), lent(ids, m), lent(out, 5)) };
+    let (borders, imprints, dictionary) = unsafe { (read(borders, b), read(imprints, i), read(dictionary, d)) };
+    let answer = searched(column, borders, imprints, dictionary, low, high, m);
+    let found = answer.clone().unwrap_or_default();
+    if fault("out-kept-at-refusal") && number(&answer) == 4 {
+        out[0] = needed(&answer);
+        return 4;
+    }
+    out.copy_from_slice(&[needed(&answer), found.ids.len() as u64, found.skipped, found.whole, found.compared]);
+    put(ids, &found.ids);
+    if fault("flat-scan-writes-one-past") && found.ids.len() < m && found.compared != 0 {
+        ids[found.ids.len()] = n as u32;
+    }
+    if fault("guard-word") && found.ids.len() == m {
+        unsafe { *ids.as_mut_ptr().add(m) = 0 };
+    }
+    number(&answer)
+}
+
+#[no_mangle]
+pub extern "C" fn mgz_filter_words(room: u32) -> u64 {
+    plain::filter_words(room)
+}
+
+fn store(words: &mut [u32], answer: &Result<Filter, No>) -> u32 {
+    if let Ok(filter) = answer {
+        put(words, &filter.layout());
+        let behind = plain::filter_words(filter.room) as usize;
+        if fault("behind-the-formula") && behind < words.len() {
+            words[behind] = 0;
+        }
+    }
+    number(answer)
+}
+
+#[no_mangle]
+pub unsafe extern "C" fn mgz_filter_fresh(levels: u32, room: u32, words: *mut u32, w: usize, out: *mut u64) -> u32 {
+    let mut answer = plain::fresh(levels, room, w);
+    if fault("fresh-11-before-6") && 4095 < room {
+        answer = Err(No { number: 11, needed: 0 });
+    }
+    unsafe { *out = needed(&answer) };
+    store(unsafe { lent(words, w) }, &answer)
+}
+
+#[no_mangle]
+pub unsafe extern "C" fn mgz_filter_ask(words: *const u32, w: usize, low: u32, high: u32, look: *mut u32) -> u32 {
+    let mut answer = plain::ask(unsafe { read(words, w) }, low, high);
+    if fault("never-denies") && answer == Ok(false) {
+        answer = Ok(true);
+    }
+    unsafe { *look = *answer.as_ref().unwrap_or(&false) as u32 };
+    number(&answer)
+}
+
+#[no_mangle]
+pub unsafe extern "C" fn mgz_filter_learn(words: *mut u32, w: usize, low: u32, high: u32) -> u32 {
+    let words = unsafe { lent(words, w) };
+    let answer = plain::learn(words, low, high);
+    if fault("learn-writes-before-refusal") && number(&answer) == 9 {
+        words[w - 1] ^= 1;
+    }
+    store(words, &answer)
+}
+
+#[no_mangle]
+pub unsafe extern "C" fn mgz_filter_arrive(words: *mut u32, w: usize, key: u32) -> u32 {
+    let words = unsafe { lent(words, w) };
+    let mut answer = plain::arrive(words, key);
+    if fault("arrival-of-one-key") && answer.is_ok() {
+        let mut filter = Filter::meant(words).unwrap();
+        filter.empty[key as usize] = false;
+        if plain::splits(&filter.empty) <= filter.room as usize {
+            answer = Ok(filter);
+        }
+    }
+    store(words, &answer)
+}
+
+#[no_mangle]
+pub unsafe extern "C" fn mgz_filter_depart(words: *mut u32, w: usize, key: u32) -> u32 {
+    let words = unsafe { lent(words, w) };
+    let answer = plain::depart(words, key);
+    if fault("departure-marks") && answer.is_ok() {
+        store(words, &plain::learn(words, key, key));
+    }
+    number(&answer)
+}
+
+#[no_mangle]
+pub unsafe extern "C" fn mgz_filter_forget(words: *mut u32, w: usize) -> u32 {
+    let words = unsafe { lent(words, w) };
+    let mut answer = plain::forget(words);
+    if let (true, Ok(filter)) = (fault("hand-past-the-end"), &mut answer) {
+        if filter.hand == 0 {
+            filter.hand = filter.keys() - 1;
+        }
+    }
+    store(words, &answer)
+}
+
+#[no_mangle]
+pub unsafe extern "C" fn mgz_filter_read(words: *const u32, w: usize, out: *mut u64) -> u32 {
+    let words = unsafe { read(words, w) };
+    let mut answer = plain::read(words);
+    if fault("short-words-pass") && w > 4 && answer.is_err() && words[1] == (w - 4) as u32 / 2 + 1 {
+        let mut longer = words.to_vec();
+        longer.resize(w + 2, 0);
+        answer = plain::read(&longer);
+    }
+    unsafe { lent(out, 4) }.copy_from_slice(answer.as_ref().unwrap_or(&[0; 4]));
+    number(&answer)
+}
+
+#[no_mangle]
+pub unsafe extern "C" fn mgz_guarded_search(
+    words: *mut u32,
+    w: usize,
+    column: *const i32,
+    n: usize,
+    borders: *const i32,
+    b: usize,
+    imprints: *const u64,
+    i: usize,
+    dictionary: *const u32,
+    d: usize,
+    low: u32,
+    high: u32,
+    ids: *mut u32,
+    m: usize,
+    out: *mut u64,
+) -> u32 {
+    let (words, column, ids, out) = unsafe { (lent(words, w), read(column, n), lent(ids, m), lent(out, 6)) };
+    let (borders, imprints, dictionary) = unsafe { (read(borders, b), read(imprints, i), read(dictionary, d)) };
+    let mut answer = plain::guarded(words, column, borders, imprints, dictionary, low, high, m);
+    if let Ok((outcome, _)) = &mut answer {
+        if fault("gap-is-the-range") && outcome.number() == 2 {
+            if let Ok(filter) = plain::learn(words, low, high) {
+                *outcome = Outcome::EmptyLearnt(filter);
+            }
+        }
+        if fault("learns-a-held-range") && outcome.number() == 3 {
+            if let Ok(filter) = plain::learn(words, low, high) {
+                *outcome = Outcome::EmptyLearnt(filter);
+            }
+        }
+    }
+    if fault("denied-with-4") && m == 0 && number(&answer) == 0 && answer.as_ref().unwrap().0 == Outcome::Denied {
+        answer = Err(No { number: 4, needed: 0 });
+    }
+    let (outcome, found) = answer.clone().unwrap_or((Outcome::Denied, Found::default()));
+    out.copy_from_slice(&[outcome.number(), needed(&answer), found.ids.len() as u64, found.skipped, found.whole, found.compared]);
+    put(ids, &found.ids);
+    if let Outcome::EmptyLearnt(filter) = outcome {
+        store(words, &Ok(filter));
+    }
+    number(&answer)
+}

@@ -1,0 +1,114 @@
+//! Document 01's examples, of the plain implementation.
+use crate::plain::*;
+
+fn column_a() -> Vec<i32> {
+    let mut column = vec![5; 32];
+    column.extend([20; 8]);
+    column
+}
+
+fn search_a(low: i32, high: i32) -> Found {
+    let (column, index) = (column_a(), index(&column_a()));
+    search(&column, &index.borders, &index.imprints, &index.dictionary, low, high, 40).unwrap()
+}
+
+fn found(rows: std::ops::Range<u32>, skipped: u64, whole: u64, compared: u64) -> Found {
+    let ids = rows.collect();
+    Found { ids, skipped, whole, compared }
+}
+
+#[test]
+fn p1_p2_index_of_a() {
+    let index = index(&column_a());
+    assert_eq!(index.borders, [5, 20]);
+    assert_eq!(line_imprints(&column_a(), &index.borders), [2, 2, 4]);
+    assert_eq!(index.dictionary, [16777218, 1]);
+    assert_eq!(index.imprints, [2, 4]);
+    let spaces = [2, 2, 2];
+    assert_eq!(build(&column_a(), spaces), Ok(index));
+}
+
+#[test]
+fn p3_to_p7_ranges_of_a() {
+    assert_eq!(search_a(5, 5), found(0..32, 1, 0, 32));
+    assert_eq!(search_a(5, 19), found(0..32, 1, 2, 0));
+    assert_eq!(search_a(20, i32::MAX), found(32..40, 2, 1, 0));
+    assert_eq!(search_a(6, 19), found(0..0, 1, 0, 32));
+    assert_eq!(search_a(-1, 4), found(0..0, 3, 0, 0));
+    assert_eq!(search_a(20, 20), found(32..40, 2, 0, 8));
+}
+
+#[test]
+fn p8_column_of_a_hundred() {
+    let column: Vec<i32> = (0..100).collect();
+    let index = index(&column);
+    assert_eq!(index.borders.len(), 63);
+    assert_eq!(index.borders[..6], [0, 1, 3, 4, 6, 8]);
+    assert_eq!(index.borders[61..], [98, 99]);
+    assert_eq!(line_imprints(&column, &index.borders)[0], 2046);
+}
+
+fn words(filter: Filter) -> Vec<u32> {
+    let mut words = filter.layout();
+    assert!(words.len() as u64 <= filter_words(filter.room));
+    words.resize(filter_words(filter.room) as usize, 77);
+    words
+}
+
+fn fresh_words(levels: u32, room: u32) -> Vec<u32> {
+    words(fresh(levels, room, filter_words(room) as usize).unwrap())
+}
+
+fn splits_of(words: &[u32]) -> u64 {
+    read(words).unwrap()[3]
+}
+
+fn remembered(words: &[u32]) -> Vec<usize> {
+    let empty = Filter::meant(words).unwrap().empty;
+    (0..empty.len()).filter(|&key| empty[key]).collect()
+}
+
+#[test]
+fn p9_learn_ask_arrive() {
+    let w = words(learn(&fresh_words(4, 7), 12, 15).unwrap());
+    assert_eq!(w[..8], [4, 7, 0, 3, 0, 3, 0, 1]);
+    assert_eq!(splits_of(&w), 2);
+    assert_eq!(ask(&w, 13, 13), Ok(false));
+    assert_eq!(ask(&w, 11, 12), Ok(true));
+    let w = words(learn(&w, 8, 11).unwrap());
+    assert_eq!(splits_of(&w), 1);
+    let w = words(arrive(&w, 9).unwrap());
+    assert_eq!(remembered(&w), []);
+}
+
+#[test]
+fn p10_room() {
+    assert_eq!(splits_of(&words(learn(&fresh_words(4, 7), 7, 8).unwrap())), 7);
+    assert_eq!(learn(&fresh_words(4, 6), 7, 8).unwrap_err().number, 9);
+}
+
+#[test]
+fn p11_one_key() {
+    let w = words(learn(&fresh_words(4, 7), 0, 4).unwrap());
+    assert_eq!(splits_of(&w), 4);
+    let w = words(learn(&w, 6, 15).unwrap());
+    assert_eq!(splits_of(&w), 4);
+}
+
+#[test]
+fn p12_forget() {
+    let w = words(learn(&fresh_words(4, 7), 12, 15).unwrap());
+    let w = words(forget(&w).unwrap());
+    assert_eq!(remembered(&w), []);
+    assert_eq!(read(&w), Ok([4, 7, 0, 0]));
+    assert_eq!(forget(&w).unwrap_err().number, 10);
+}
+
+#[test]
+fn samples_and_lengths() {
+    assert_eq!(sample(&vec![1; 2048]).len(), 2048);
+    assert_eq!(sample(&vec![1; 2049]).len(), 1025);
+    let nothing = Index { borders: vec![], imprints: vec![], dictionary: vec![] };
+    assert_eq!(build(&[], [0, 0, 0]), Ok(nothing));
+    assert_eq!(build(&vec![0; 16_777_217], [63, 9, 9]).unwrap_err().number, 2);
+}

@@ -1,0 +1,425 @@
+//! Each call made of the library and of the plain implementation, and everything compared: the number, every word
+//! of every lent space (of the read ones too), and the guard words on both sides of each. The answer handed back is the plain one.
+use crate::face::*;
+use crate::plain::{self, Filter, Found, Index, No, Outcome, Position};
+use std::cell::RefCell;
+use std::fmt::Debug;
+
+thread_local! { static CASE: RefCell<String> = const { RefCell::new(String::new()) }; }
+
+/// What is being tried, for the message of a comparison that fails.
+pub fn case(text: String) {
+    CASE.with(|case| *case.borrow_mut() = text);
+}
+
+fn differ(call: &str, what: &str) -> ! {
+    CASE.with(|case| panic!("{call}: {what} [case: {}]", case.borrow()))
+}
+
+pub trait Word: Copy + PartialEq + Debug {
+    /// A word that stands for "never written"; it differs from place to place.
+    fn stale(place: usize) -> Self;
+}
+
+fn mixed(place: usize) -> u64 {
+    (place as u64 + 1).wrapping_mul(0x9E37_79B9_7F4A_7C15)
+}
+
+impl Word for i32 {
+    fn stale(place: usize) -> i32 {
+        mixed(place) as i32
+    }
+}
+
+impl Word for u32 {
+    fn stale(place: usize) -> u32 {
+        mixed(place) as u32
+    }
+}
+
+impl Word for u64 {
+    fn stale(place: usize) -> u64 {
+        mixed(place)
+    }
+}
+
+const GUARDS: usize = 16;
+
+/// A lent space with guard words before and after it.
+pub struct Space<T> {
+    all: Vec<T>,
+    length: usize,
+}
+
+impl<T: Word> Space<T> {
+    pub fn of(words: &[T]) -> Space<T> {
+        let length = words.len();
+        let mut all: Vec<T> = (0..GUARDS).map(T::stale).collect();
+        all.extend_from_slice(words);
+        all.extend((GUARDS + length..2 * GUARDS + length).map(T::stale));
+        Space { all, length }
+    }
+
+    /// A space nobody has written to.
+    pub fn stale(length: usize) -> Space<T> {
+        let all = (0..2 * GUARDS + length).map(T::stale).collect();
+        Space { all, length }
+    }
+
+    pub fn words(&self) -> &[T] {
+        &self.all[GUARDS..GUARDS + self.length]
+    }
+
+    pub fn ptr(&self) -> *const T {
+        self.words().as_ptr()
+    }
+
+    pub fn mut_ptr(&mut self) -> *mut T {
+        self.all[GUARDS..].as_mut_ptr()
+    }
+
+    pub fn len(&self) -> usize {
+        self.length
+    }
+
+    pub fn is_empty(&self) -> bool {
+        self.length == 0
+    }
+
+    fn guards(&self, call: &str, name: &str) {
+        let after = GUARDS + self.length;
+        for place in (0..GUARDS).chain(after..after + GUARDS) {
+            if self.all[place] != T::stale(place) {
+                differ(call, &format!("a word outside `{name}` was changed"));
+            }
+        }
+    }
+
+    /// The words are exactly these.
+    fn same(&self, call: &str, name: &str, wanted: &[T]) {
+        self.guards(call, name);
+        assert_eq!(self.length, wanted.len());
+        if let Some(place) = (0..self.length).find(|&place| self.words()[place] != wanted[place]) {
+            let (got, want) = (self.words()[place], wanted[place]);
+            differ(call, &format!("`{name}`[{place}] is {got:?}, should be {want:?}"));
+        }
+    }
+
+    /// The front is this, and what follows was never written.
+    fn front(&self, call: &str, name: &str, front: &[T]) {
+        let mut wanted = front.to_vec();
+        wanted.extend((GUARDS + front.len()..GUARDS + self.length).map(T::stale));
+        self.same(call, name, &wanted);
+    }
+}
+
+fn number<T>(call: &str, got: u32, wanted: &Result<T, No>) {
+    let want = wanted.as_ref().err().map_or(0, |no| no.number);
+    if got != want {
+        differ(call, &format!("the number is {got}, should be {want}"));
+    }
+}
+
+fn needed<T>(answer: &Result<T, No>) -> u64 {
+    answer.as_ref().err().map_or(0, |no| no.needed)
+}
+
+pub fn build(column: &[i32], spaces: [usize; 3]) -> Result<Index, No> {
+    let answer = plain::build(column, spaces);
+    let lent = Space::of(column);
+    let mut borders = Space::<i32>::stale(spaces[0]);
+    let mut imprints = Space::<u64>::stale(spaces[1]);
+    let mut dictionary = Space::<u32>::stale(spaces[2]);
+    let mut out = Space::<u64>::stale(4);
+    let got = unsafe {
+        mgz_build(
+            lent.ptr(),
+            lent.len(),
+            borders.mut_ptr(),
+            borders.len(),
+            imprints.mut_ptr(),
+            imprints.len(),
+            dictionary.mut_ptr(),
+            dictionary.len(),
+            out.mut_ptr(),
+        )
+    };
+    let call = "mgz_build";
+    number(call, got, &answer);
+    lent.same(call, "column", column);
+    let nothing = Index { borders: vec![], imprints: vec![], dictionary: vec![] };
+    let index = answer.as_ref().unwrap_or(&nothing);
+    let lengths = [needed(&answer), index.borders.len() as u64, index.imprints.len() as u64, index.dictionary.len() as u64];
+    out.same(call, "out", &lengths);
+    borders.front(call, "borders", &index.borders);
+    imprints.front(call, "imprints", &index.imprints);
+    dictionary.front(call, "dictionary", &index.dictionary);
+    answer
+}
+
+pub fn pack(list: &[u64], borders: &[i32], spaces: [usize; 2]) -> Result<(Vec<u64>, Vec<u32>), No> {
+    let answer = plain::pack(list, borders, spaces);
+    let (lent, lent_borders) = (Space::of(list), Space::of(borders));
+    let mut imprints = Space::<u64>::stale(spaces[0]);
+    let mut dictionary = Space::<u32>::stale(spaces[1]);
+    let mut out = Space::<u64>::stale(3);
+    let got = unsafe {
+        mgz_pack(
+            lent.ptr(),
+            lent.len(),
+            lent_borders.ptr(),
+            lent_borders.len(),
+            imprints.mut_ptr(),
+            imprints.len(),
+            dictionary.mut_ptr(),
+            dictionary.len(),
+            out.mut_ptr(),
+        )
+    };
+    let call = "mgz_pack";
+    number(call, got, &answer);
+    lent.same(call, "list", list);
+    lent_borders.same(call, "borders", borders);
+    let (kept, entries) = answer.clone().unwrap_or_default();
+    let lengths = [needed(&answer), kept.len() as u64, entries.len() as u64];
+    out.same(call, "out", &lengths);
+    imprints.front(call, "imprints", &kept);
+    dictionary.front(call, "dictionary", &entries);
+    answer
+}
+
+/// The three parts of an index, lent to be read.
+struct Parts {
+    borders: Space<i32>,
+    imprints: Space<u64>,
+    dictionary: Space<u32>,
+}
+
+impl Parts {
+    fn of(index: &Index) -> Parts {
+        Parts { borders: Space::of(&index.borders), imprints: Space::of(&index.imprints), dictionary: Space::of(&index.dictionary) }
+    }
+
+    fn same(&self, call: &str, index: &Index) {
+        self.borders.same(call, "borders", &index.borders);
+        self.imprints.same(call, "imprints", &index.imprints);
+        self.dictionary.same(call, "dictionary", &index.dictionary);
+    }
+}
+
+pub fn unpack(index: &Index, lines: u64, space: usize) -> Result<Vec<u64>, No> {
+    let answer = plain::unpack(&index.borders, &index.imprints, &index.dictionary, lines, space);
+    let parts = Parts::of(index);
+    let mut list = Space::<u64>::stale(space);
+    let mut out = Space::<u64>::stale(1);
+    let got = unsafe {
+        mgz_unpack(
+            parts.borders.ptr(),
+            parts.borders.len(),
+            parts.imprints.ptr(),
+            parts.imprints.len(),
+            parts.dictionary.ptr(),
+            parts.dictionary.len(),
+            lines,
+            list.mut_ptr(),
+            list.len(),
+            out.mut_ptr(),
+        )
+    };
+    let call = "mgz_unpack";
+    number(call, got, &answer);
+    parts.same(call, index);
+    out.same(call, "needed", &[needed(&answer)]);
+    list.front(call, "list", answer.as_deref().unwrap_or(&[]));
+    answer
+}
+
+pub fn step(dictionary: &[u32], imprints: &[u64], at: Position) -> Result<(Option<u64>, Position), No> {
+    let answer = plain::step(dictionary, imprints, at);
+    let (entries, kept) = (Space::of(dictionary), Space::of(imprints));
+    let mut out = Space::<u64>::stale(5);
+    let got = unsafe { mgz_step(entries.ptr(), entries.len(), kept.ptr(), kept.len(), at.entry, at.place, at.number, out.mut_ptr()) };
+    let call = "mgz_step";
+    number(call, got, &answer);
+    entries.same(call, "dictionary", dictionary);
+    kept.same(call, "imprints", imprints);
+    let told = match answer {
+        Err(_) => [0; 5],
+        Ok((imprint, after)) => [imprint.is_none() as u64, imprint.unwrap_or(0), after.entry, after.place, after.number],
+    };
+    out.same(call, "out", &told);
+    answer
+}
+
+pub fn search(column: &[i32], index: &Index, low: i32, high: i32, space: usize) -> Result<Found, No> {
+    let answer = plain::search(column, &index.borders, &index.imprints, &index.dictionary, low, high, space);
+    let (lent, parts) = (Space::of(column), Parts::of(index));
+    let mut ids = Space::<u32>::stale(space);
+    let mut out = Space::<u64>::stale(5);
+    let got = unsafe {
+        mgz_search(
+            lent.ptr(),
+            lent.len(),
+            parts.borders.ptr(),
+            parts.borders.len(),
+            parts.imprints.ptr(),
+            parts.imprints.len(),
+            parts.dictionary.ptr(),
+            parts.dictionary.len(),
+            low,
+            high,
+            ids.mut_ptr(),
+            ids.len(),
+            out.mut_ptr(),
+        )
+    };
+    let call = "mgz_search";
+    number(call, got, &answer);
+    lent.same(call, "column", column);
+    parts.same(call, index);
+    let found = answer.clone().unwrap_or_default();
+    let told = [needed(&answer), found.ids.len() as u64, found.skipped, found.whole, found.compared];
+    out.same(call, "out", &told);
+    ids.front(call, "ids", &found.ids);
+    answer
+}
+
+/// Filter words after a call: unchanged unless they changed their meaning; then the words in use are the new layout,
+/// the words behind the formula are unchanged, and those between are free.
+fn filter_words(call: &str, words: &Space<u32>, before: &[u32], after: Option<&Filter>) {
+    let Some(filter) = after else {
+        return words.same(call, "words", before);
+    };
+    let mut wanted = words.words().to_vec();
+    let layout = filter.layout();
+    wanted[..layout.len()].copy_from_slice(&layout);
+    let behind = plain::filter_words(filter.room) as usize;
+    wanted[behind..].copy_from_slice(&before[behind..]);
+    words.same(call, "words", &wanted);
+}
+
+pub fn formula(room: u32) {
+    let (got, want) = (unsafe { mgz_filter_words(room) }, plain::filter_words(room));
+    if got != want {
+        differ("mgz_filter_words", &format!("of room {room}: {got}, should be {want}"));
+    }
+}
+
+/// The calls that write filter words take them and leave in them what the library left there, the free words too.
+pub fn fresh(levels: u32, room: u32, words: &mut Vec<u32>) -> Result<Filter, No> {
+    let answer = plain::fresh(levels, room, words.len());
+    let mut lent = Space::of(words);
+    let mut out = Space::<u64>::stale(1);
+    let got = unsafe { mgz_filter_fresh(levels, room, lent.mut_ptr(), lent.len(), out.mut_ptr()) };
+    let call = "mgz_filter_fresh";
+    number(call, got, &answer);
+    out.same(call, "needed", &[needed(&answer)]);
+    filter_words(call, &lent, words, answer.as_ref().ok());
+    *words = lent.words().to_vec();
+    answer
+}
+
+pub fn ask(words: &[u32], low: u32, high: u32) -> Result<bool, No> {
+    let answer = plain::ask(words, low, high);
+    let lent = Space::of(words);
+    let mut look = Space::<u32>::stale(1);
+    let got = unsafe { mgz_filter_ask(lent.ptr(), lent.len(), low, high, look.mut_ptr()) };
+    let call = "mgz_filter_ask";
+    number(call, got, &answer);
+    look.same(call, "look", &[*answer.as_ref().unwrap_or(&false) as u32]);
+    filter_words(call, &lent, words, None);
+    answer
+}
+
+pub fn learn(words: &mut Vec<u32>, low: u32, high: u32) -> Result<Filter, No> {
+    let answer = plain::learn(words, low, high);
+    let mut lent = Space::of(words);
+    let got = unsafe { mgz_filter_learn(lent.mut_ptr(), lent.len(), low, high) };
+    number("mgz_filter_learn", got, &answer);
+    filter_words("mgz_filter_learn", &lent, words, answer.as_ref().ok());
+    *words = lent.words().to_vec();
+    answer
+}
+
+pub fn arrive(words: &mut Vec<u32>, key: u32) -> Result<Filter, No> {
+    let answer = plain::arrive(words, key);
+    let mut lent = Space::of(words);
+    let got = unsafe { mgz_filter_arrive(lent.mut_ptr(), lent.len(), key) };
+    number("mgz_filter_arrive", got, &answer);
+    filter_words("mgz_filter_arrive", &lent, words, answer.as_ref().ok());
+    *words = lent.words().to_vec();
+    answer
+}
+
+pub fn depart(words: &[u32], key: u32) -> Result<(), No> {
+    let answer = plain::depart(words, key);
+    let lent = Space::of(words);
+    let got = unsafe { mgz_filter_depart(lent.ptr(), lent.len(), key) };
+    number("mgz_filter_depart", got, &answer);
+    filter_words("mgz_filter_depart", &lent, words, None);
+    answer
+}
+
+pub fn forget(words: &mut Vec<u32>) -> Result<Filter, No> {
+    let answer = plain::forget(words);
+    let mut lent = Space::of(words);
+    let got = unsafe { mgz_filter_forget(lent.mut_ptr(), lent.len()) };
+    number("mgz_filter_forget", got, &answer);
+    filter_words("mgz_filter_forget", &lent, words, answer.as_ref().ok());
+    *words = lent.words().to_vec();
+    answer
+}
+
+pub fn read(words: &[u32]) -> Result<[u64; 4], No> {
+    let answer = plain::read(words);
+    let lent = Space::of(words);
+    let mut out = Space::<u64>::stale(4);
+    let got = unsafe { mgz_filter_read(lent.ptr(), lent.len(), out.mut_ptr()) };
+    let call = "mgz_filter_read";
+    number(call, got, &answer);
+    out.same(call, "out", answer.as_ref().unwrap_or(&[0; 4]));
+    filter_words(call, &lent, words, None);
+    answer
+}
+
+pub fn guarded(words: &mut Vec<u32>, column: &[i32], index: &Index, low: u32, high: u32, space: usize) -> Result<(Outcome, Found), No> {
+    let answer = plain::guarded(words, column, &index.borders, &index.imprints, &index.dictionary, low, high, space);
+    let (lent, parts) = (Space::of(column), Parts::of(index));
+    let mut lent_words = Space::of(words);
+    let mut ids = Space::<u32>::stale(space);
+    let mut out = Space::<u64>::stale(6);
+    let got = unsafe {
+        mgz_guarded_search(
+            lent_words.mut_ptr(),
+            lent_words.len(),
+            lent.ptr(),
+            lent.len(),
+            parts.borders.ptr(),
+            parts.borders.len(),
+            parts.imprints.ptr(),
+            parts.imprints.len(),
+            parts.dictionary.ptr(),
+            parts.dictionary.len(),
+            low,
+            high,
+            ids.mut_ptr(),
+            ids.len(),
+            out.mut_ptr(),
+        )
+    };
+    let call = "mgz_guarded_search";
+    number(call, got, &answer);
+    lent.same(call, "column", column);
+    parts.same(call, index);
+    let (outcome, found) = answer.clone().unwrap_or((Outcome::Denied, Found::default()));
+    let told = [outcome.number(), needed(&answer), found.ids.len() as u64, found.skipped, found.whole, found.compared];
+    out.same(call, "out", &told);
+    ids.front(call, "ids", &found.ids);
+    let after = match &outcome {
+        Outcome::EmptyLearnt(filter) => Some(filter),
+        _ => None,
+    };
+    filter_words(call, &lent_words, words, after);
+    *words = lent_words.words().to_vec();
+    answer
+}

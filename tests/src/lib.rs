@@ -1,0 +1,12 @@
+//! Tests of the library from outside.
+//!
+//! - `plain`: document 01 once more, naive on purpose and written from the document alone; `examples` holds it to the document's own examples.
+//! - `face`: the library's calls, as a Rust program sees them through the C boundary.
+//! - `held`: each call made in both, and every number and every lent word compared.
+//! - `inputs`: seeded columns, ranges and damage.
+#[cfg(test)]
+mod examples;
+pub mod face;
+pub mod held;
+pub mod inputs;
+pub mod plain;

@@ -1,0 +1,573 @@
+//! Document 01 said in plain Rust: slow, short, one function a sentence. Nothing here is taken from the proved code.
+
+pub const ROWS_AT_MOST: usize = 16_777_216;
+pub const LINES_AT_MOST: u64 = 1_048_576;
+pub const ROWS_PER_LINE: usize = 16;
+pub const ROOM_AT_MOST: u32 = 4_095;
+
+/// Any answer but 0: its number, and the length needed where the number is 4 (else 0).
+#[derive(Clone, Copy, Debug, PartialEq, Eq)]
+pub struct No {
+    pub number: u32,
+    pub needed: u64,
+}
+
+fn no<T>(number: u32) -> Result<T, No> {
+    Err(No { number, needed: 0 })
+}
+
+fn short<T>(needed: usize) -> Result<T, No> {
+    Err(No { number: 4, needed: needed as u64 })
+}
+
+// ---------------------------------------------------------------- bins and line imprints
+
+pub fn lines(rows: usize) -> usize {
+    rows.div_ceil(ROWS_PER_LINE)
+}
+
+pub fn sample(column: &[i32]) -> Vec<i32> {
+    let stride = if column.len() <= 2048 { 1 } else { column.len().div_ceil(2048) };
+    column.iter().copied().step_by(stride).collect()
+}
+
+pub fn borders(column: &[i32]) -> Vec<i32> {
+    let mut sorted = sample(column);
+    sorted.sort();
+    let mut different = sorted.clone();
+    different.dedup();
+    if different.len() <= 62 {
+        return different;
+    }
+    let m = sorted.len();
+    let mut chosen: Vec<i32> = (0..62).map(|i| sorted[i * m / 62]).collect();
+    chosen.push(sorted[m - 1]);
+    chosen.dedup();
+    chosen
+}
+
+pub fn bin(borders: &[i32], v: i32) -> usize {
+    borders.iter().filter(|&&b| b <= v).count()
+}
+
+pub fn imprint(borders: &[i32], line: &[i32]) -> u64 {
+    let mut word = 0;
+    for &v in line {
+        word |= 1u64 << bin(borders, v);
+    }
+    word
+}
+
+pub fn line_imprints(column: &[i32], borders: &[i32]) -> Vec<u64> {
+    column.chunks(ROWS_PER_LINE).map(|line| imprint(borders, line)).collect()
+}
+
+pub fn borders_good(borders: &[i32]) -> bool {
+    borders.len() <= 63 && borders.windows(2).all(|w| w[0] < w[1])
+}
+
+// ---------------------------------------------------------------- the packed line dictionary
+
+pub const REPEAT: u32 = 1 << 24;
+pub const COUNT: u32 = REPEAT - 1;
+
+/// The longest runs of equal words: the word and how often it stands there.
+pub fn runs(list: &[u64]) -> Vec<(u64, usize)> {
+    let mut runs: Vec<(u64, usize)> = Vec::new();
+    for &word in list {
+        match runs.last_mut() {
+            Some((last, times)) if *last == word => *times += 1,
+            _ => runs.push((word, 1)),
+        }
+    }
+    runs
+}
+
+/// The imprints kept and the dictionary.
+pub fn packing(list: &[u64]) -> (Vec<u64>, Vec<u32>) {
+    let runs = runs(list);
+    let (mut kept, mut dictionary) = (Vec::new(), Vec::new());
+    let mut at = 0;
+    while at < runs.len() {
+        if 2 <= runs[at].1 {
+            kept.push(runs[at].0);
+            dictionary.push(REPEAT + runs[at].1 as u32);
+            at += 1;
+        } else {
+            let from = at;
+            while at < runs.len() && runs[at].1 == 1 {
+                kept.push(runs[at].0);
+                at += 1;
+            }
+            dictionary.push((at - from) as u32);
+        }
+    }
+    (kept, dictionary)
+}
+
+/// Nonzero, and no bit at or above the number of bins.
+pub fn fit(borders: &[i32], word: u64) -> bool {
+    let bins = borders.len() + 1;
+    word != 0 && (0..64).all(|bit| bit < bins || word >> bit & 1 == 0)
+}
+
+/// The list of which these words are the packing: of fit words, one per line. There is none where 3 is due.
+pub fn listed(borders: &[i32], imprints: &[u64], dictionary: &[u32], lines: u64) -> Option<Vec<u64>> {
+    let mut list = Vec::new();
+    let mut number = 0;
+    for &entry in dictionary {
+        let count = (entry & COUNT) as usize;
+        if lines < (list.len() + count) as u64 {
+            return None;
+        }
+        for place in 0..count {
+            list.push(*imprints.get(number)?);
+            if entry & REPEAT == 0 || place + 1 == count {
+                number += 1;
+            }
+        }
+    }
+    let good = list.len() as u64 == lines
+        && list.iter().all(|&word| fit(borders, word))
+        && packing(&list) == (imprints.to_vec(), dictionary.to_vec());
+    good.then_some(list)
+}
+
+#[derive(Clone, Copy, Debug, PartialEq, Eq)]
+pub struct Position {
+    pub entry: u64,
+    pub place: u64,
+    pub number: u64,
+}
+
+/// The imprint (none at the end) and the position after the step.
+pub fn step(dictionary: &[u32], imprints: &[u64], at: Position) -> Result<(Option<u64>, Position), No> {
+    let Position { entry, place, number } = at;
+    if entry == dictionary.len() as u64 {
+        return Ok((None, at));
+    }
+    if (dictionary.len() as u64) < entry {
+        return no(3);
+    }
+    let word = dictionary[entry as usize];
+    let count = (word & COUNT) as u64;
+    if count <= place || (imprints.len() as u64) <= number {
+        return no(3);
+    }
+    let last = place + 1 == count;
+    let after = Position {
+        entry: if last { entry + 1 } else { entry },
+        place: if last { 0 } else { place + 1 },
+        number: if last || word & REPEAT == 0 { number + 1 } else { number },
+    };
+    Ok((Some(imprints[number as usize]), after))
+}
+
+// ---------------------------------------------------------------- build, pack, unpack, range search
+
+#[derive(Clone, Debug, PartialEq, Eq)]
+pub struct Index {
+    pub borders: Vec<i32>,
+    pub imprints: Vec<u64>,
+    pub dictionary: Vec<u32>,
+}
+
+/// The index of a column, whatever its length and the spaces lent.
+pub fn index(column: &[i32]) -> Index {
+    let borders = borders(column);
+    let (imprints, dictionary) = packing(&line_imprints(column, &borders));
+    Index { borders, imprints, dictionary }
+}
+
+/// `spaces`: how long the border, imprint and dictionary spaces are.
+pub fn build(column: &[i32], spaces: [usize; 3]) -> Result<Index, No> {
+    if ROWS_AT_MOST < column.len() {
+        return no(2);
+    }
+    let index = index(column);
+    let needed = [index.borders.len(), index.imprints.len(), index.dictionary.len()];
+    for i in 0..3 {
+        if spaces[i] < needed[i] {
+            return short(needed[i]);
+        }
+    }
+    Ok(index)
+}
+
+pub fn pack(list: &[u64], borders: &[i32], spaces: [usize; 2]) -> Result<(Vec<u64>, Vec<u32>), No> {
+    if LINES_AT_MOST < list.len() as u64 {
+        return no(2);
+    }
+    if !borders_good(borders) {
+        return no(5);
+    }
+    if !list.iter().all(|&word| fit(borders, word)) {
+        return no(3);
+    }
+    let (imprints, dictionary) = packing(list);
+    if spaces[0] < imprints.len() {
+        return short(imprints.len());
+    }
+    if spaces[1] < dictionary.len() {
+        return short(dictionary.len());
+    }
+    Ok((imprints, dictionary))
+}
+
+pub fn unpack(borders: &[i32], imprints: &[u64], dictionary: &[u32], lines: u64, space: usize) -> Result<Vec<u64>, No> {
+    if LINES_AT_MOST < lines {
+        return no(2);
+    }
+    if !borders_good(borders) {
+        return no(5);
+    }
+    let Some(list) = listed(borders, imprints, dictionary, lines) else {
+        return no(3);
+    };
+    if space < list.len() {
+        return short(list.len());
+    }
+    Ok(list)
+}
+
+/// The smallest and the greatest value of a bin (the first above the second where the bin holds none).
+pub fn span(borders: &[i32], bin: usize) -> (i64, i64) {
+    let from = if bin == 0 { i32::MIN as i64 } else { borders[bin - 1] as i64 };
+    let to = if bin == borders.len() { i32::MAX as i64 } else { borders[bin] as i64 - 1 };
+    (from, to)
+}
+
+/// The mask and the inner mask of a range.
+pub fn masks(borders: &[i32], low: i32, high: i32) -> (u64, u64) {
+    let (mut mask, mut inner) = (0, 0);
+    for b in bin(borders, low)..=bin(borders, high) {
+        mask |= 1u64 << b;
+        let (from, to) = span(borders, b);
+        if low as i64 <= from && to <= high as i64 {
+            inner |= 1u64 << b;
+        }
+    }
+    (mask, inner)
+}
+
+#[derive(Clone, Debug, Default, PartialEq, Eq)]
+pub struct Found {
+    pub ids: Vec<u32>,
+    pub skipped: u64,
+    pub whole: u64,
+    pub compared: u64,
+}
+
+pub fn rows_of(column: &[i32], borders: &[i32], list: &[u64], low: i32, high: i32) -> Found {
+    let (mask, inner) = masks(borders, low, high);
+    let mut found = Found::default();
+    for (line, &word) in list.iter().enumerate() {
+        let rows = line * ROWS_PER_LINE..column.len().min((line + 1) * ROWS_PER_LINE);
+        if word & mask == 0 {
+            found.skipped += 1;
+        } else if word & !inner == 0 {
+            found.whole += 1;
+            found.ids.extend(rows.map(|row| row as u32));
+        } else {
+            found.compared += rows.len() as u64;
+            found.ids.extend(rows.filter(|&row| low <= column[row] && column[row] <= high).map(|row| row as u32));
+        }
+    }
+    found
+}
+
+/// What a plain scan lists.
+pub fn scan(column: &[i32], low: i32, high: i32) -> Vec<u32> {
+    (0..column.len()).filter(|&row| low <= column[row] && column[row] <= high).map(|row| row as u32).collect()
+}
+
+fn index_list(column: &[i32], borders: &[i32], imprints: &[u64], dictionary: &[u32]) -> Result<Vec<u64>, No> {
+    if ROWS_AT_MOST < column.len() {
+        return no(2);
+    }
+    if !borders_good(borders) {
+        return no(5);
+    }
+    let lines = lines(column.len()) as u64;
+    listed(borders, imprints, dictionary, lines).ok_or(No { number: 3, needed: 0 })
+}
+
+pub fn search(
+    column: &[i32],
+    borders: &[i32],
+    imprints: &[u64],
+    dictionary: &[u32],
+    low: i32,
+    high: i32,
+    space: usize,
+) -> Result<Found, No> {
+    let list = index_list(column, borders, imprints, dictionary)?;
+    if high < low {
+        return no(1);
+    }
+    let found = rows_of(column, borders, &list, low, high);
+    if space < found.ids.len() {
+        return short(found.ids.len());
+    }
+    Ok(found)
+}
+
+// ---------------------------------------------------------------- the filter
+
+/// What filter words mean.
+#[derive(Clone, Debug, PartialEq, Eq)]
+pub struct Filter {
+    pub levels: u32,
+    pub room: u32,
+    pub hand: u32,
+    /// Of each key: is it remembered as empty?
+    pub empty: Vec<bool>,
+}
+
+/// The formula: levels, room, hand, and a tree of at most `room` splits.
+pub fn filter_words(room: u32) -> u64 {
+    2 * room as u64 + 4
+}
+
+/// Wholly in D or wholly outside.
+fn uniform(empty: &[bool]) -> bool {
+    empty.iter().all(|&e| e == empty[0])
+}
+
+/// The smallest halving tree in preorder: a leaf is 0 (outside) or 1 (in D), a split is 2 + the words of its left half.
+pub fn tree(empty: &[bool]) -> Vec<u32> {
+    if uniform(empty) {
+        return vec![empty[0] as u32];
+    }
+    let (left, right) = empty.split_at(empty.len() / 2);
+    let left = tree(left);
+    let mut words = vec![2 + left.len() as u32];
+    words.extend(left);
+    words.extend(tree(right));
+    words
+}
+
+/// How many splits the smallest tree has.
+pub fn splits(empty: &[bool]) -> usize {
+    tree(empty).iter().filter(|&&word| 2 <= word).count()
+}
+
+/// The leaf of the smallest tree that holds the key: its first key, and the first one after it.
+pub fn leaf(empty: &[bool], key: usize) -> (usize, usize) {
+    let (mut from, mut to) = (0, empty.len());
+    while !uniform(&empty[from..to]) {
+        let half = from + (to - from) / 2;
+        if key < half {
+            to = half;
+        } else {
+            from = half;
+        }
+    }
+    (from, to)
+}
+
+/// Every split with two leaves, by its range, lowest first.
+pub fn pairs(empty: &[bool], from: usize) -> Vec<(usize, usize)> {
+    if uniform(empty) {
+        return Vec::new();
+    }
+    let half = empty.len() / 2;
+    if uniform(&empty[..half]) && uniform(&empty[half..]) {
+        return vec![(from, from + empty.len())];
+    }
+    let mut all = pairs(&empty[..half], from);
+    all.extend(pairs(&empty[half..], from + half));
+    all
+}
+
+/// Follows the words at `at` down a halving tree over `empty`; gives the place after them.
+fn follow(words: &[u32], at: usize, empty: &mut [bool]) -> Option<usize> {
+    let word = *words.get(at)?;
+    if word < 2 {
+        empty.fill(word == 1);
+        return Some(at + 1);
+    }
+    if empty.len() == 1 {
+        return None;
+    }
+    let (left, right) = empty.split_at_mut(empty.len() / 2);
+    let middle = follow(words, at + 1, left)?;
+    follow(words, middle, right)
+}
+
+impl Filter {
+    pub fn keys(&self) -> u32 {
+        1 << self.levels
+    }
+
+    /// The words in use.
+    pub fn layout(&self) -> Vec<u32> {
+        let mut words = vec![self.levels, self.room, self.hand];
+        words.extend(tree(&self.empty));
+        words
+    }
+
+    /// What the words mean; none where 8 is due.
+    pub fn meant(words: &[u32]) -> Option<Filter> {
+        let (&levels, &room, &hand) = (words.first()?, words.get(1)?, words.get(2)?);
+        if !(1..=20).contains(&levels) || ROOM_AT_MOST < room || 1 << levels <= hand {
+            return None;
+        }
+        if (words.len() as u64) < filter_words(room) {
+            return None;
+        }
+        let mut empty = vec![false; 1 << levels];
+        follow(words, 3, &mut empty)?;
+        let filter = Filter { levels, room, hand, empty };
+        let layout = filter.layout();
+        let same = layout.len() <= words.len() && words[..layout.len()] == layout[..];
+        (same && splits(&filter.empty) <= room as usize).then_some(filter)
+    }
+}
+
+fn meant(words: &[u32]) -> Result<Filter, No> {
+    Filter::meant(words).ok_or(No { number: 8, needed: 0 })
+}
+
+fn meant_with_key(words: &[u32], key: u32) -> Result<Filter, No> {
+    let filter = meant(words)?;
+    if filter.keys() <= key {
+        return no(7);
+    }
+    Ok(filter)
+}
+
+fn meant_with_range(words: &[u32], low: u32, high: u32) -> Result<Filter, No> {
+    let filter = meant(words)?;
+    if filter.keys() <= low || filter.keys() <= high {
+        return no(7);
+    }
+    if high < low {
+        return no(1);
+    }
+    Ok(filter)
+}
+
+pub fn fresh(levels: u32, room: u32, space: usize) -> Result<Filter, No> {
+    if !(1..=20).contains(&levels) {
+        return no(6);
+    }
+    if ROOM_AT_MOST < room {
+        return no(11);
+    }
+    if (space as u64) < filter_words(room) {
+        return short(filter_words(room) as usize);
+    }
+    Ok(Filter { levels, room, hand: 0, empty: vec![false; 1 << levels] })
+}
+
+fn denies(filter: &Filter, low: u32, high: u32) -> bool {
+    filter.empty[low as usize..=high as usize].iter().all(|&e| e)
+}
+
+/// Does it say look?
+pub fn ask(words: &[u32], low: u32, high: u32) -> Result<bool, No> {
+    Ok(!denies(&meant_with_range(words, low, high)?, low, high))
+}
+
+pub fn learn(words: &[u32], low: u32, high: u32) -> Result<Filter, No> {
+    let mut filter = meant_with_range(words, low, high)?;
+    filter.empty[low as usize..=high as usize].fill(true);
+    if (filter.room as usize) < splits(&filter.empty) {
+        return no(9);
+    }
+    Ok(filter)
+}
+
+pub fn arrive(words: &[u32], key: u32) -> Result<Filter, No> {
+    let mut filter = meant_with_key(words, key)?;
+    let (from, to) = leaf(&filter.empty, key as usize);
+    filter.empty[from..to].fill(false);
+    Ok(filter)
+}
+
+pub fn depart(words: &[u32], key: u32) -> Result<(), No> {
+    meant_with_key(words, key).map(|_| ())
+}
+
+pub fn forget(words: &[u32]) -> Result<Filter, No> {
+    let mut filter = meant(words)?;
+    let pairs = pairs(&filter.empty, 0);
+    let ahead = pairs.iter().find(|(from, _)| filter.hand as usize <= *from).or(pairs.first());
+    let Some(&(from, to)) = ahead else {
+        return no(10);
+    };
+    filter.empty[from..to].fill(false);
+    filter.hand = if to == filter.empty.len() { 0 } else { to as u32 };
+    Ok(filter)
+}
+
+/// Levels, room, hand, splits.
+pub fn read(words: &[u32]) -> Result<[u64; 4], No> {
+    let filter = meant(words)?;
+    let splits = splits(&filter.empty) as u64;
+    Ok([filter.levels as u64, filter.room as u64, filter.hand as u64, splits])
+}
+
+// ---------------------------------------------------------------- search with both
+
+#[derive(Clone, Debug, PartialEq, Eq)]
+pub enum Outcome {
+    Denied,
+    Found,
+    /// With the filter as it stands afterwards.
+    EmptyLearnt(Filter),
+    EmptyNotLearnt,
+}
+
+impl Outcome {
+    pub fn number(&self) -> u64 {
+        match self {
+            Outcome::Denied => 0,
+            Outcome::Found => 1,
+            Outcome::EmptyLearnt(_) => 2,
+            Outcome::EmptyNotLearnt => 3,
+        }
+    }
+}
+
+/// The widest range of keys around low to high that no column value lies in; there is none if one lies in that range.
+pub fn gap(column: &[i32], keys: u32, low: u32, high: u32) -> Option<(u32, u32)> {
+    let values: Vec<u32> = column.iter().filter(|&&v| 0 <= v && v < keys as i32).map(|&v| v as u32).collect();
+    if values.iter().any(|&v| low <= v && v <= high) {
+        return None;
+    }
+    let before = values.iter().filter(|&&v| v < low).max();
+    let after = values.iter().filter(|&&v| high < v).min();
+    Some((before.map_or(0, |v| v + 1), after.map_or(keys, |v| *v) - 1))
+}
+
+#[allow(clippy::too_many_arguments)]
+pub fn guarded(
+    words: &[u32],
+    column: &[i32],
+    borders: &[i32],
+    imprints: &[u64],
+    dictionary: &[u32],
+    low: u32,
+    high: u32,
+    space: usize,
+) -> Result<(Outcome, Found), No> {
+    let filter = meant_with_range(words, low, high)?;
+    index_list(column, borders, imprints, dictionary)?;
+    if denies(&filter, low, high) {
+        return Ok((Outcome::Denied, Found::default()));
+    }
+    let found = search(column, borders, imprints, dictionary, low as i32, high as i32, space)?;
+    if !found.ids.is_empty() {
+        return Ok((Outcome::Found, found));
+    }
+    let outcome = match gap(column, filter.keys(), low, high) {
+        None => Outcome::EmptyNotLearnt,
+        Some((from, to)) => match learn(words, from, to) {
+            Ok(after) => Outcome::EmptyLearnt(after),
+            Err(_) => Outcome::EmptyNotLearnt,
+        },
+    };
+    Ok((outcome, found))
+}
