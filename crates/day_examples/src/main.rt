@@ -113,24 +113,67 @@ fn minutes(
     );
 }
 
-// The searches of the day, through the filter and the index.
-fn day(words: &mut [u32], column: &[i32], borders: &[i32], imprints: &[u64], dictionary: &[u32]) {
+// Both samples of a minute that came twice, and the one of a minute that came once.
+fn double_minutes(
+    words: &mut [u32],
+    column: &[i32],
+    borders: &[i32],
+    imprints: &[u64],
+    dictionary: &[u32],
+) {
     text(b"the double minutes\n");
     minutes(words, column, borders, imprints, dictionary, 120, 120);
     minutes(words, column, borders, imprints, dictionary, 150, 150);
     minutes(words, column, borders, imprints, dictionary, 105, 105);
+}
+
+// An empty hour is looked for once; then it, and every other hour of its gap, is denied.
+fn empty_hours(
+    words: &mut [u32],
+    column: &[i32],
+    borders: &[i32],
+    imprints: &[u64],
+    dictionary: &[u32],
+) {
     text(b"an empty hour, asked twice, and another of the same gap\n");
     minutes(words, column, borders, imprints, dictionary, 300, 359);
     minutes(words, column, borders, imprints, dictionary, 300, 359);
     minutes(words, column, borders, imprints, dictionary, 420, 479);
+}
+
+// The gap behind the last sample.
+fn after_the_last(
+    words: &mut [u32],
+    column: &[i32],
+    borders: &[i32],
+    imprints: &[u64],
+    dictionary: &[u32],
+) {
     text(b"after the last sample\n");
     minutes(words, column, borders, imprints, dictionary, 600, 659);
     minutes(words, column, borders, imprints, dictionary, 600, 659);
     minutes(words, column, borders, imprints, dictionary, 1380, 1439);
+}
+
+fn whole_day(
+    words: &mut [u32],
+    column: &[i32],
+    borders: &[i32],
+    imprints: &[u64],
+    dictionary: &[u32],
+) {
     text(b"the whole day, and what is refused\n");
     minutes(words, column, borders, imprints, dictionary, 0, 1439);
     minutes(words, column, borders, imprints, dictionary, 1439, 0);
     minutes(words, column, borders, imprints, dictionary, 0, 2048);
+}
+
+// The searches of the day, through the filter and the index.
+fn day(words: &mut [u32], column: &[i32], borders: &[i32], imprints: &[u64], dictionary: &[u32]) {
+    double_minutes(words, column, borders, imprints, dictionary);
+    empty_hours(words, column, borders, imprints, dictionary);
+    after_the_last(words, column, borders, imprints, dictionary);
+    whole_day(words, column, borders, imprints, dictionary);
 }
 
 // A filter of 11 levels (2,048 minutes), with room for 11 splits for each of 28 different minutes.
