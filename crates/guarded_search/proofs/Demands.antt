@@ -1,30 +1,26 @@
 -- The maintainer's three demands, as theorems of the calls' promises. Assumes nothing.
-use mathlib.Core.Path.{_≡_, refl, sym, ap, subst, _∙_}
-use mathlib.Core.Bool.{Bool, true, false, cond, not}
-use mathlib.Core.List.{List, [], _∷_}
-use Prim.Native.Nat.{ℕ, suc, _+_, _*_, _^_, _≤_, _<_}
+use mathlib.Core.Path.{_≡_}
+use mathlib.Core.Bool.{false}
+use mathlib.Core.List.{List}
+use Prim.Native.Nat.{ℕ, _*_, _^_, _≤_}
 use native.Mathlib.Omega.{arith}
-use lib.Dec.{ltb, lit<}
+use lib.Dec.{lit<}
 use lib.IntN.{ℤ, pos}
 use lib.ListN.{length, take}
 use lib.Signed.{ltZ}
-use Rattle.words.specs.Lists.{filled, after}
 use Rattle.words.specs.Numbers.{numbered}
-use Rattle.words.proofs.ListLaws.{take-filled}
-use Rattle.bins.specs.Bins.{readings, borders, good-borders}
-use Rattle.column_index.specs.Index.{built, is-index-for}
-use Rattle.column_index.specs.Search.{Answer, search-by, scan}
-use Rattle.column_index.specs.Promise.{most-rows, build-number, build-answer, build-lengths, Builds, pack-number, Packs, unpack-number, Unpacks, search-number, search-answer, search-room, Searches}
+use Rattle.bins.specs.Bins.{readings}
+use Rattle.column_index.specs.Search.{search-by, scan}
+use Rattle.column_index.specs.Promise.{build-number, Builds, pack-number, Packs, unpack-number, Unpacks, search-number, Searches}
 use Rattle.column_index.specs.declared.BuildAnswer.{BuildAnswer}
 use Rattle.column_index.specs.declared.BuildAnswer.the-variants as build
 use Rattle.column_index.specs.declared.PackAnswer.{PackAnswer}
 use Rattle.column_index.specs.declared.UnpackAnswer.{UnpackAnswer}
 use Rattle.column_index.specs.declared.SearchAnswer.{SearchAnswer}
-use Rattle.column_index.specs.declared.SearchAnswer.the-variants as searching
 use Rattle.column_index.proofs.SearchLaws.{InKind}
 use Rattle.column_index.proofs.BuiltLaws.{built-scan}
+use Rattle.column_index.proofs.MadeLaws.{builds-all, Lists-the-scan, searches-built}
 use Rattle.column_index.proofs.PromiseLaws.{builds-keeps, packs-keeps, unpacks-keeps, searches-keeps}
-use Rattle.range_filter.specs.Layout.{Filter}
 use Rattle.range_filter.specs.Calls.{freshMemory}
 use Rattle.range_filter.specs.Promise.{Fresh, madeNumber, Ask, Learn, learntNumber, Arrive, arrivedNumber, Forget, forgotNumber}
 use Rattle.range_filter.specs.History.{NoneIn}
@@ -43,73 +39,18 @@ use Rattle.guarded_search.specs.History.{History}
 use Rattle.guarded_search.specs.declared.Outcome.the-variants.{Denied}
 use Rattle.guarded_search.specs.declared.GuardAnswer.{GuardAnswer}
 use Rattle.guarded_search.specs.declared.GuardAnswer.the-variants as guard
-use Rattle.guarded_search.proofs.Bounds.{fresh-calm, unlearnt, at-first}
+use Rattle.guarded_search.proofs.Bounds.{fresh-calm, at-first}
 use Rattle.guarded_search.proofs.Bounded.{State, bounded}
 use Rattle.guarded_search.proofs.Exact.{exact}
 use Rattle.guarded_search.proofs.Only.{guards-refused}
 use Rattle.guarded_search.proofs.Sound.{denied-empty, search-denied-empty}
 
--- ---- the index that build leaves: the fronts of the three lent spaces, by the lengths that it answers
+-- with the index that build left, the fronts of the three lent spaces, the range search lists what a plain scan lists
+own-scan : {col bs bs′ : List ℤ} {is ds is′ ds′ : List ℕ} {b i d : ℕ} → InKind readings col → Builds col bs is ds (build.Done b i d) bs′ is′ ds′ → (low high : ℤ) → search-by readings (take b bs′) (take d ds′) (take i is′) col low high .ids ≡ scan readings low high 0 col
+own-scan {col} kind p low high = let a = builds-all p in rw (a .borders-front, a .imprints-front, a .dictionary-front) (built-scan readings (lit< tt) col low high kind)
 
--- the fronts are the index of the column
-pub record Own (col bs : List ℤ) (is ds : List ℕ) : Type 0 where
-  pub borders : bs ≡ borders readings col
-  pub imprints : is ≡ built readings col .imps
-  pub dictionary : ds ≡ built readings col .dict
-
-front {ℓ} : {A : Type ℓ} (n : ℕ) (xs l l′ : List A) → n ≡ length xs → l′ ≡ filled xs l → take n l′ ≡ xs
-front {A = A} n xs l l′ e q = ap (λ (k : ℕ). take k l′) e ∙ ap (λ (t : List A). take (length xs) t) q ∙ take-filled xs l
-
-length-tests : (u v w : Bool) (b i d b₀ i₀ d₀ : ℕ) → build.Done b i d ≡ cond u (build.BordersShort b₀) (cond v (build.ImprintsShort i₀) (cond w (build.DictionaryShort d₀) (build.Done b₀ i₀ d₀))) → (b ≡ b₀) × (i ≡ i₀) × (d ≡ d₀)
-length-tests true v w b i d b₀ i₀ d₀ e = absurd (let z : _≡_ {A = ℕ} 0 1 = cc in omega arith)
-length-tests false true w b i d b₀ i₀ d₀ e = absurd (let z : _≡_ {A = ℕ} 0 1 = cc in omega arith)
-length-tests false false true b i d b₀ i₀ d₀ e = absurd (let z : _≡_ {A = ℕ} 0 1 = cc in omega arith)
-length-tests false false false b i d b₀ i₀ d₀ e = (cc, cc, cc)
-
-build-tests : (t : Bool) (b i d : ℕ) (a : BuildAnswer) → build.Done b i d ≡ cond t build.TooLong a → build.Done b i d ≡ a
-build-tests true b i d a e = absurd (let z : _≡_ {A = ℕ} 0 1 = cc in omega arith)
-build-tests false b i d a e = e
-
-pub build-own : {col bs bs′ : List ℤ} {is ds is′ ds′ : List ℕ} {b i d : ℕ} → Builds col bs is ds (build.Done b i d) bs′ is′ ds′ → Own col (take b bs′) (take i is′) (take d ds′)
-unfolding build-answer
-build-own {col} {bs} {bs′} {is} {ds} {is′} {ds′} {b} {i} {d} p =
-    let lb : ℕ = length (borders readings col) in
-    let li : ℕ = length (built readings col .imps) in
-    let ld : ℕ = length (built readings col .dict) in
-    let e = build-tests (ltb most-rows (length col)) b i d (build-lengths lb li ld (length bs) (length is) (length ds)) (p .answers) in
-    let n = length-tests (ltb (length bs) lb) (ltb (length is) li) (ltb (length ds) ld) b i d lb li ld e in
-    record {
-      borders = front b (borders readings col) bs bs′ (n .0) (p .borders-after);
-      imprints = front i (built readings col .imps) is is′ (n .1) (p .imprints-after);
-      dictionary = front d (built readings col .dict) ds ds′ (n .2) (p .dictionary-after);
-    }
-
-counted : (n s w c : ℕ) (col bs : List ℤ) (is ds : List ℕ) (low high : ℤ) (space : ℕ) → searching.Done n s w c ≡ search-answer col bs is ds low high space → n ≡ length (search-by readings bs ds is col low high .ids)
-unfolding search-answer
-counted n s w c col bs is ds low high space e = go (ltb most-rows (length col)) (good-borders bs) (is-index-for readings bs col ds is) (ltZ high low) (ltb space (length (search-by readings bs ds is col low high .ids))) (search-by readings bs ds is col low high) e
-  where
-    go : (l g a o t : Bool) (x : Answer) → searching.Done n s w c ≡ cond l searching.TooLong (cond (not g) searching.BadBorders (cond (not a) searching.NoIndex (cond o searching.LowAboveHigh (cond t (searching.Short (length (x .ids))) (searching.Done (length (x .ids)) (x .skips) (x .wholes) (x .compares)))))) → n ≡ length (x .ids)
-    go true g a o t x e = absurd (let z : _≡_ {A = ℕ} 0 1 = cc in omega arith)
-    go false false a o t x e = absurd (let z : _≡_ {A = ℕ} 0 1 = cc in omega arith)
-    go false true false o t x e = absurd (let z : _≡_ {A = ℕ} 0 1 = cc in omega arith)
-    go false true true true t x e = absurd (let z : _≡_ {A = ℕ} 0 1 = cc in omega arith)
-    go false true true false true x e = absurd (let z : _≡_ {A = ℕ} 0 1 = cc in omega arith)
-    go false true true false false x e = cc
-
--- the front that a range search fills
-searched-front : {col bs : List ℤ} {is ds rows rows′ : List ℕ} {low high : ℤ} (n s w c : ℕ) → Searches col bs is ds low high rows (searching.Done n s w c) rows′ → take n rows′ ≡ search-by readings bs ds is col low high .ids
-searched-front {col} {bs} {is} {ds} {rows} {rows′} {low} {high} n s w c p = front n (search-by readings bs ds is col low high .ids) rows rows′ (counted n s w c col bs is ds low high (length rows) (p .answers)) (p .rows-after)
-
--- with it the range search lists what a plain scan lists
-own-scan : {col bs : List ℤ} {is ds : List ℕ} → InKind readings col → Own col bs is ds → (low high : ℤ) → search-by readings bs ds is col low high .ids ≡ scan readings low high 0 col
-own-scan {col} {bs} {is} {ds} k o low high =
-    ap (λ (x : List ℤ). search-by readings x ds is col low high .ids) (o .borders)
-    ∙ ap (λ (x : List ℕ). search-by readings (borders readings col) x is col low high .ids) (o .dictionary)
-    ∙ ap (λ (x : List ℕ). search-by readings (borders readings col) (built readings col .dict) x col low high .ids) (o .imprints)
-    ∙ built-scan readings (lit< tt) col low high k
-
--- ---- DEMAND 1: every call ends and is safe, which is what it is for a call to be proved; and an answer other than 0 changes no lent word. (Ask, departure and read are lent
--- the words for reading alone, and so is what a call is not listed with here.)
+-- ---- DEMAND 1: every call ends and is safe, which is what it is for a call to be proved; and an answer other than 0 changes no lent word.
+-- (Ask, departure and read are lent the words for reading alone.)
 
 pub demand-1-build : {col bs bs′ : List ℤ} {is ds is′ ds′ : List ℕ} {r : BuildAnswer} → Builds col bs is ds r bs′ is′ ds′ → (numbered (build-number r) ≡ 0 → ⊥) → (bs′ ≡ bs) × (is′ ≡ is) × (ds′ ≡ ds)
 demand-1-build p ne = builds-keeps p ne
@@ -140,14 +81,16 @@ demand-1-guarded p ne = guards-refused p ne
 
 -- ---- DEMAND 2
 
--- with the index that build left, the range search lists exactly the rows that a plain scan lists
+-- with the index that build left, the range search lists exactly the rows that a plain scan lists, rising
 pub demand-2-rows :
-    {col bs bs′ : List ℤ} {is ds is′ ds′ rows rows′ : List ℕ} {b i d n s w c : ℕ} {low high : ℤ} →
+    {col bs bs′ : List ℤ} {is ds is′ ds′ rows rows′ : List ℕ} {b i d : ℕ} {low high : ℤ} {r : SearchAnswer} →
     InKind readings col →
     Builds col bs is ds (build.Done b i d) bs′ is′ ds′ →
-    Searches col (take b bs′) (take i is′) (take d ds′) low high rows (searching.Done n s w c) rows′ →
-    take n rows′ ≡ scan readings low high 0 col
-demand-2-rows {n = n} {s} {w} {c} kind p q = searched-front n s w c q ∙ own-scan kind (build-own p) _ _
+    ltZ high low ≡ false →
+    length (scan readings low high 0 col) ≤ length rows →
+    Searches col (take b bs′) (take i is′) (take d ds′) low high rows r rows′ →
+    Lists-the-scan col low high r rows′
+demand-2-rows kind p order room q = searches-built p q kind order room
 
 -- and so does every search with both that is done, denied ones among them, in any list of searches over an unchanged column, from a fresh filter of any room
 pub demand-2-exact :
@@ -158,7 +101,7 @@ pub demand-2-exact :
     madeNumber r ≡ 0 →
     Searching col (take b bs′) (take i is′) (take d ds′) w′ ts →
     All-exact col ts
-demand-2-exact {col} {bs} {bs′} {is} {ds} {is′} {ds′} {w} {w′} {b} {i} {d} {k} {room} {r} ts kind p q z s = exact col (take b bs′) (take i is′) (take d ds′) (λ lo hi. own-scan kind (build-own p) (pos lo) (pos hi)) ts w′ (freshMemory k room) (made-filter q z) (fresh-calm k (keys k col)) s
+demand-2-exact {col} {bs} {bs′} {is} {ds} {is′} {ds′} {w} {w′} {b} {i} {d} {k} {room} {r} ts kind p q z s = exact col (take b bs′) (take i is′) (take d ds′) (λ lo hi. own-scan kind p (pos lo) (pos hi)) ts w′ (freshMemory k room) (made-filter q z) (fresh-calm k (keys k col)) s
 
 -- in every history, searches with both among its calls, a range that ask denies holds no sample present
 pub demand-2-denied : {w samples : List ℕ} (lo hi : ℕ) → History w samples → Ask w lo hi asked.Denied → NoneIn lo hi samples
@@ -182,9 +125,8 @@ pub demand-3 :
     Searching col (take b bs′) (take i is′) (take d ds′) w′ ts →
     Few-wasted (keys k col) (different (2 ^ k) (keys k col)) ts
 demand-3 {col} {bs} {bs′} {is} {ds} {is′} {ds′} {w} {w′} {b} {i} {d} {k} {room} {r} ts kind p q z enough s =
-    let own = build-own p in
     let state : State col w′ (freshMemory k room) = record { filter = made-filter q z; calm = fresh-calm k (keys k col); enough = enough } in
-    let x = bounded col (take b bs′) (take i is′) (take d ds′) (λ lo hi. own-scan kind own (pos lo) (pos hi)) ts w′ (freshMemory k room) state s in
+    let x = bounded col (take b bs′) (take i is′) (take d ds′) (λ lo hi. own-scan kind p (pos lo) (pos hi)) ts w′ (freshMemory k room) state s in
     record {
       none-unlearnt = x .none-unlearnt;
       at-most = omega (arith, x .at-most, at-first k (keys k col) (λ x. false));
