@@ -1,7 +1,6 @@
 -- Document 01, the range search: its rows and its numbers in one value. Assumes nothing.
 use Prim.Native.Nat.{ℕ}
 use mathlib.Core.List.{List}
-use mathlib.Core.Path.{_≡_}
 use lib.IntN.{ℤ}
 use lib.ListN.{length}
 use denote.Ref.{RefT, now, at-last}
@@ -9,7 +8,7 @@ use Rattle.words.specs.Lists.{after}
 use Rattle.words.specs.Numbers.{numbered}
 use Rattle.bins.specs.Bins.{readings}
 use Rattle.column_index.specs.Search.{search-by}
-use Rattle.column_index.specs.Promise.{search-answer, search-number, listed-by}
+use Rattle.column_index.specs.Promise.{search-answer, search-number}
 use Rattle.column_index.specs.declared.SearchAnswer.{SearchAnswer}
 use Rattle.column_index.specs.declared.SearchAnswer.the-variants as searching
 use Rattle.found_rows.specs.declared.Figures.{Figures}
