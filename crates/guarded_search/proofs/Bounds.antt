@@ -13,10 +13,10 @@ use lib.Pow.{pow-pos}
 use borrow.Author.Tests.{ltb-true, ltb-false, lt-ltb, le-ltb, eqb-true, eqb-false, eq-eqb, ne-eqb}
 use Rattle.words.specs.Lists.{has}
 use Rattle.range_filter.specs.Tree.{treeOf, splits, paint}
-use Rattle.range_filter.specs.Form.{In-range}
+use Rattle.halving_tree.specs.Form.{In-range}
 use Rattle.range_filter.specs.Beside.{Beside, different}
 use Rattle.range_filter.specs.Calls.{allIn}
-use Rattle.range_filter.proofs.PaintLaws.{paint-in, paint-out}
+use Rattle.halving_tree.proofs.PaintLaws.{paint-in, paint-out}
 use Rattle.range_filter.proofs.PromiseLaws.{all-in-is}
 use Rattle.range_filter.proofs.Bound.{bound-different}
 use Rattle.guarded_search.specs.Gaps.{follows, gap-start}
