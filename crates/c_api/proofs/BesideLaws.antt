@@ -24,7 +24,10 @@ use Rattle.range_filter.specs.declared.Asked.{Asked}
 use Rattle.range_filter.specs.declared.Asked.the-variants as asked
 use Rattle.range_filter.specs.declared.Reading.{Reading}
 use Rattle.range_filter.specs.declared.Reading.the-variants as reading
-use Rattle.c_api.specs.Promise.{BuildFace, PackFace, UnpackFace, unpack-needed, StepFace, step-number, step-beside, SearchFace, FreshFace, AskFace, look-word, ReadFace}
+use Rattle.guarded_search.specs.Promise.{guard-number, guard-beside}
+use Rattle.guarded_search.specs.declared.GuardAnswer.{GuardAnswer}
+use Rattle.guarded_search.specs.declared.GuardAnswer.the-variants as guard
+use Rattle.c_api.specs.Promise.{BuildFace, PackFace, UnpackFace, unpack-needed, StepFace, step-number, step-beside, SearchFace, FreshFace, AskFace, look-word, ReadFace, GuardFace}
 
 -- ---- build
 
@@ -148,3 +151,32 @@ reading-rest (reading.Means h) ne = absurd (ne refl)
 
 pub read-zeros : {w o : List ℕ} {n : ℕ} → ReadFace w n o → (n ≡ 0 → ⊥) → o ≡ 0 ∷ 0 ∷ 0 ∷ 0 ∷ []
 read-zeros p ne = p .words ∙ reading-rest (p .answer) (λ z. ne (p .number ∙ z))
+
+-- ---- the search with both
+
+guard-rest : (a : GuardAnswer) → (guard-number a ≡ 0 → ⊥) → guard-beside a ≡ 0 ∷ getD (guard-beside a) 1 0 ∷ 0 ∷ 0 ∷ 0 ∷ 0 ∷ []
+guard-rest (guard.Done o n s w c) ne = absurd (ne refl)
+guard-rest guard.NoFilter ne = refl
+guard-rest guard.NoKey ne = refl
+guard-rest guard.LowAboveHigh ne = refl
+guard-rest guard.TooLong ne = refl
+guard-rest guard.BadBorders ne = refl
+guard-rest guard.NoIndex ne = refl
+guard-rest (guard.Short n) ne = refl
+
+guard-need : (a : GuardAnswer) → (guard-number a ≡ 4 → ⊥) → getD (guard-beside a) 1 0 ≡ 0
+guard-need (guard.Done o n s w c) ne = refl
+guard-need guard.NoFilter ne = refl
+guard-need guard.NoKey ne = refl
+guard-need guard.LowAboveHigh ne = refl
+guard-need guard.TooLong ne = refl
+guard-need guard.BadBorders ne = refl
+guard-need guard.NoIndex ne = refl
+guard-need (guard.Short n) ne = absurd (ne refl)
+
+module _ {w w₁ : List ℕ} {col bs : List ℤ} {is ds rows r₁ o : List ℕ} {lo hi n : ℕ} (p : GuardFace w col bs is ds lo hi rows n w₁ r₁ o) where
+  pub guard-zeros : (n ≡ 0 → ⊥) → o ≡ 0 ∷ getD o 1 0 ∷ 0 ∷ 0 ∷ 0 ∷ 0 ∷ []
+  guard-zeros ne = rw (p .words) (guard-rest (p .answer) (λ z. ne (p .number ∙ z)))
+
+  pub guard-needs-4 : (n ≡ 4 → ⊥) → getD o 1 0 ≡ 0
+  guard-needs-4 ne = ap (λ (l : List ℕ). getD l 1 0) (p .words) ∙ guard-need (p .answer) (λ z. ne (p .number ∙ z))

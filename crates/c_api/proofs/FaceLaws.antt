@@ -12,7 +12,9 @@ use Rattle.column_index.specs.declared.SearchAnswer.{SearchAnswer}
 use Rattle.column_index.proofs.PromiseLaws.{builds-only, builds-keeps, packs-only, packs-keeps, unpacks-only, unpacks-keeps, searches-only, searches-keeps}
 use Rattle.range_filter.specs.Promise.{madeNumber, madeBeside, askedNumber, learntNumber, arrivedNumber, departedNumber, forgotNumber, readingNumber, readingBeside}
 use Rattle.range_filter.proofs.Only.{fresh-only, fresh-refused, ask-only, learn-only, learn-refused, arrive-only, arrive-refused, depart-only, forget-only, forget-refused, read-only}
-use Rattle.c_api.specs.Promise.{BuildFace, PackFace, UnpackFace, unpack-needed, StepFace, SearchFace, FreshFace, AskFace, look-word, LearnFace, ArriveFace, DepartFace, ForgetFace, ReadFace}
+use Rattle.guarded_search.specs.Promise.{guard-number, guard-beside}
+use Rattle.guarded_search.proofs.Only.{guards-only, guards-refused}
+use Rattle.c_api.specs.Promise.{BuildFace, PackFace, UnpackFace, unpack-needed, StepFace, SearchFace, FreshFace, AskFace, look-word, LearnFace, ArriveFace, DepartFace, ForgetFace, ReadFace, GuardFace}
 
 -- what is said of one answer by one function is one thing
 one : {A B : Type 0} (f : A → B) {r s : A} {m n : B} → r ≡ s → m ≡ f r → n ≡ f s → m ≡ n
@@ -109,3 +111,14 @@ module _ {w : List ℕ} where
   read-face-only p q =
       let e = read-only (p .reads) (q .reads) in
       (one readingNumber e (p .number) (q .number), one readingBeside e (p .words) (q .words))
+
+-- ---- the search with both
+
+module _ {w : List ℕ} {col bs : List ℤ} {is ds : List ℕ} {lo hi : ℕ} {rows : List ℕ} where
+  pub guard-only : {m n : ℕ} {w₁ w₂ r₁ r₂ o₁ o₂ : List ℕ} → GuardFace w col bs is ds lo hi rows m w₁ r₁ o₁ → GuardFace w col bs is ds lo hi rows n w₂ r₂ o₂ → (m ≡ n) × (w₁ ≡ w₂) × (r₁ ≡ r₂) × (o₁ ≡ o₂)
+  guard-only p q =
+      let e = guards-only (p .guards) (q .guards) in
+      (one guard-number (e .0) (p .number) (q .number), e .1, e .2, one guard-beside (e .0) (p .words) (q .words))
+
+  pub guard-keeps : {n : ℕ} {w₁ r₁ o₁ : List ℕ} → GuardFace w col bs is ds lo hi rows n w₁ r₁ o₁ → (n ≡ 0 → ⊥) → (w₁ ≡ w) × (r₁ ≡ rows)
+  guard-keeps p ne = guards-refused (p .guards) (λ z. ne (p .number ∙ z))

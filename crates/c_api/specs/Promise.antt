@@ -23,6 +23,8 @@ use Rattle.range_filter.specs.declared.Arrived.{Arrived}
 use Rattle.range_filter.specs.declared.Departed.{Departed}
 use Rattle.range_filter.specs.declared.Forgot.{Forgot}
 use Rattle.range_filter.specs.declared.Reading.{Reading}
+use Rattle.guarded_search.specs.Promise.{Guards, guard-number, guard-beside}
+use Rattle.guarded_search.specs.declared.GuardAnswer.{GuardAnswer}
 
 -- ---- the index part
 
@@ -125,3 +127,11 @@ pub record ReadFace (w : List ℕ) (n : ℕ) (out′ : List ℕ) : Type 0 where
   pub reads : Read w answer
   pub number : n ≡ readingNumber answer
   pub words : out′ ≡ readingBeside answer
+
+-- ---- the search with both; beside the number: outcome, needed, rows, skipped, whole, compared
+
+pub record GuardFace (w : List ℕ) (col bs : List ℤ) (is ds : List ℕ) (lo hi : ℕ) (rows : List ℕ) (n : ℕ) (w′ rows′ out′ : List ℕ) : Type 0 where
+  pub answer : GuardAnswer
+  pub guards : Guards w col bs is ds lo hi rows answer w′ rows′
+  pub number : n ≡ guard-number answer
+  pub words : out′ ≡ guard-beside answer

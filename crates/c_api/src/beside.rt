@@ -32,3 +32,15 @@ pub fn put5(out: &mut [u64], a: u64, b: u64, c: u64, d: u64, e: u64)
     out[3] = d;
     out[4] = e;
 }
+
+pub fn put6(out: &mut [u64], a: u64, b: u64, c: u64, d: u64, e: u64, f: u64)
+    requires { ⌜ length (now out) ≡ 6 ⌝ }
+    ensures { λ _. ⌜ now (out .exit) ≡ a ∷ b ∷ c ∷ d ∷ e ∷ f ∷ [] ⌝ }
+{
+    out[0] = a;
+    out[1] = b;
+    out[2] = c;
+    out[3] = d;
+    out[4] = e;
+    out[5] = f;
+}
