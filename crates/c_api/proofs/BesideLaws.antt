@@ -1,5 +1,7 @@
 -- Beside a number other than 0 every word is 0 but the length needed, and beside a number other than 4 the length needed is 0. Assumes nothing.
 use mathlib.Core.Path.{_≡_, refl, _∙_, ap}
+use mathlib.Core.Bool.{true, false≢true}
+use mathlib.Core.Logic.{⊎-elim}
 use mathlib.Core.List.{List, [], _∷_}
 use Prim.Native.Nat.{ℕ}
 use lib.ListN.{drop, getD}
@@ -24,9 +26,14 @@ use Rattle.range_filter.specs.declared.Asked.{Asked}
 use Rattle.range_filter.specs.declared.Asked.the-variants as asked
 use Rattle.range_filter.specs.declared.Reading.{Reading}
 use Rattle.range_filter.specs.declared.Reading.the-variants as reading
+use Rattle.range_filter.specs.Layout.{Memory, Filter}
+use Rattle.range_filter.proofs.Decide.{decide}
 use Rattle.guarded_search.specs.Promise.{guard-number, guard-beside}
 use Rattle.guarded_search.specs.declared.GuardAnswer.{GuardAnswer}
 use Rattle.guarded_search.specs.declared.GuardAnswer.the-variants as guard
+use Rattle.guarded_search.specs.declared.Outcome.the-variants.{Denied, Found, Learnt, NotLearnt}
+use Rattle.guarded_search.specs.Searching.{says-learnt}
+use Rattle.guarded_search.proofs.TurnLaws.{Turned, same, more, waste, turned}
 use Rattle.c_api.specs.Promise.{BuildFace, PackFace, UnpackFace, unpack-needed, StepFace, step-number, step-beside, SearchFace, FreshFace, AskFace, look-word, ReadFace, GuardFace}
 
 -- ---- build
@@ -174,9 +181,32 @@ guard-need guard.BadBorders ne = refl
 guard-need guard.NoIndex ne = refl
 guard-need (guard.Short n) ne = absurd (ne refl)
 
+-- only outcome 2 says that the gap was learnt
+learnt-2 : (a : GuardAnswer) → says-learnt a ≡ true → getD (guard-beside a) 0 0 ≡ 2
+learnt-2 (guard.Done Denied n s w c) e = absurd (false≢true e)
+learnt-2 (guard.Done Found n s w c) e = absurd (false≢true e)
+learnt-2 (guard.Done Learnt n s w c) e = refl
+learnt-2 (guard.Done NotLearnt n s w c) e = absurd (false≢true e)
+learnt-2 guard.NoFilter e = absurd (false≢true e)
+learnt-2 guard.NoKey e = absurd (false≢true e)
+learnt-2 guard.LowAboveHigh e = absurd (false≢true e)
+learnt-2 guard.TooLong e = absurd (false≢true e)
+learnt-2 guard.BadBorders e = absurd (false≢true e)
+learnt-2 guard.NoIndex e = absurd (false≢true e)
+learnt-2 (guard.Short n) e = absurd (false≢true e)
+
 module _ {w w₁ : List ℕ} {col bs : List ℤ} {is ds rows r₁ o : List ℕ} {lo hi n : ℕ} (p : GuardFace w col bs is ds lo hi rows n w₁ r₁ o) where
   pub guard-zeros : (n ≡ 0 → ⊥) → o ≡ 0 ∷ getD o 1 0 ∷ 0 ∷ 0 ∷ 0 ∷ 0 ∷ []
   guard-zeros ne = rw (p .words) (guard-rest (p .answer) (λ z. ne (p .number ∙ z)))
 
   pub guard-needs-4 : (n ≡ 4 → ⊥) → getD o 1 0 ≡ 0
   guard-needs-4 ne = ap (λ (l : List ℕ). getD l 1 0) (p .words) ∙ guard-need (p .answer) (λ z. ne (p .number ∙ z))
+
+  -- the filter words change only at outcome 2
+  pub guard-words-stay : (getD o 0 0 ≡ 2 → ⊥) → w₁ ≡ w
+  guard-words-stay ne = ⊎-elim (λ z. go (z .0) (z .1) (turned (p .guards) (z .0) (z .1))) (λ bad. p .guards .kept .not-meant-words bad) (decide w)
+    where
+      go : (m : Memory) (f : Filter w m) → Turned (p .guards) m f → w₁ ≡ w
+      go m f (same a b e) = e
+      go m f (more a b l s t z e g) = absurd (ne (ap (λ (x : List ℕ). getD x 0 0) (p .words) ∙ learnt-2 (p .answer) a))
+      go m f (waste a b e l h) = e
