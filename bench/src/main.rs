@@ -88,7 +88,7 @@ fn main() {
         let bytes = 4 * parts.borders.len() + 8 * parts.imprints.len() + 4 * parts.dictionary.len();
         let share = 100.0 * bytes as f64 / (4 * rows) as f64;
         let per_row = best * 1e9 / rows as f64;
-        built += &format!("| {name} | {:.1} | {per_row:.2} | {:.1} | {share:.2}% |\n", best * 1e3, best / least);
+        built += &format!("| {name} | {:.1} | {per_row:.2} | {:.1} | {share:.3}% |\n", best * 1e3, best / least);
         for (percent, of_million) in [("0.001%", 10), ("0.1%", 1_000), ("0.9%", 9_000), ("10%", 100_000), ("50%", 500_000)] {
             eprintln!("{name}: ranges of {percent}, {reps} times");
             let range = inputs::range(&sorted, of_million);
