@@ -3,7 +3,7 @@
 mod filters;
 mod inputs;
 
-use miguzoryane::{search, IndexBuf, ROWS_AT_MOST};
+use miguzoryane::{guarded_search, search, Filter, IndexBuf, Outcome, ROWS_AT_MOST};
 use std::hint::black_box;
 use std::time::Instant;
 
@@ -54,6 +54,28 @@ fn measure(column: &[i32], index: &IndexBuf, (low, high): (i32, i32), reps: usiz
     format!("{rows} | {:.3} | {:.3} | **{ratio:.3}** | {looked}", ours * 1e3, theirs * 1e3)
 }
 
+/// The search with both over a range that no row lies in: the look that learns, a denial, and the search without a filter.
+fn both(column: &[i32], index: &IndexBuf, reps: usize, ids: &mut [u32]) -> String {
+    let past = column.iter().max().map_or(0, |&v| v as u32 + 1);
+    let range = past..=past.max((1 << 20) - 1);
+    let (mut learnt, mut denied, mut plain) = (f64::MAX, f64::MAX, f64::MAX);
+    for _ in 0..reps {
+        let mut filter = Filter::fresh(20, 4095).expect("levels and room are good");
+        let (took, outcome) = seconds(|| {
+            guarded_search(&mut filter, column, index.as_index(), range.clone(), ids).map(|o| matches!(o, Outcome::EmptyLearnt(_)))
+        });
+        assert_eq!(outcome, Ok(true), "the first look learns");
+        learnt = learnt.min(took);
+        let (took, outcome) =
+            seconds(|| guarded_search(&mut filter, column, index.as_index(), range.clone(), ids).map(|o| o == Outcome::Denied));
+        assert_eq!(outcome, Ok(true), "the second is denied");
+        denied = denied.min(took);
+        let (low, high) = (*range.start() as i32, *range.end() as i32);
+        plain = plain.min(seconds(|| search(column, index.as_index(), low..=high, ids).map(|found| found.rows.len())).0);
+    }
+    format!("| {:.3} | {:.3} | {:.3} |", learnt * 1e3, denied * 1e3, plain * 1e3)
+}
+
 fn machine() -> String {
     let text = std::fs::read_to_string("/proc/cpuinfo").unwrap_or_default();
     let line = |name: &str| text.lines().find(|line| line.starts_with(name)).and_then(|line| line.split(": ").nth(1));
@@ -68,7 +90,7 @@ fn main() {
     let calls = setting("MGZ_BENCH_CALLS", 2000);
     let mut spaces = Spaces { ids: vec![1; rows], scanned: Vec::with_capacity(rows) };
     println!("{rows} rows, best of {reps}; {}.\n", machine());
-    let mut built = String::new();
+    let (mut built, mut guarded) = (String::new(), String::new());
     println!("| column | range hits | rows | search, ms | scan, ms | search / scan | lines skipped / whole / compared |");
     println!("|---|---|---|---|---|---|---|");
     for name in inputs::COLUMNS {
@@ -88,15 +110,21 @@ fn main() {
         let bytes = 4 * parts.borders.len() + 8 * parts.imprints.len() + 4 * parts.dictionary.len();
         let share = 100.0 * bytes as f64 / (4 * rows) as f64;
         let per_row = best * 1e9 / rows as f64;
-        built += &format!("| {name} | {:.1} | {per_row:.2} | {:.1} | {share:.2}% |\n", best * 1e3, best / least);
+        built += &format!("| {name} | {:.1} | {per_row:.2} | {:.1} | {share:.3}% |\n", best * 1e3, best / least);
         for (percent, of_million) in [("0.001%", 10), ("0.1%", 1_000), ("0.9%", 9_000), ("10%", 100_000), ("50%", 500_000)] {
             eprintln!("{name}: ranges of {percent}, {reps} times");
             let range = inputs::range(&sorted, of_million);
             println!("| {name} | {percent} | {} |", measure(&column, &index, range, reps, &mut spaces));
         }
+        if name == "drifting" {
+            eprintln!("{name}: search with both, {reps} times");
+            guarded = both(&column, &index, reps, &mut spaces.ids);
+        }
     }
     println!("\n| column | build, ms | ns per row | build / scan of an empty range | index, of the column |");
     println!("|---|---|---|---|---|");
     println!("{built}");
+    println!("| an empty range of the drifting column: look and learn, ms | denied, ms | search without the filter, ms |");
+    println!("|---|---|---|\n{guarded}\n");
     filters::measure(reps, calls);
 }
