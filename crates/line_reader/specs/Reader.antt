@@ -5,7 +5,7 @@ use mathlib.Core.Path.{_≡_}
 use lib.ListN.{length}
 use denote.Ref.{RefT, now}
 use Rattle.words.specs.Lists.{filled}
-use Rattle.dictionary.specs.Position.{position, step}
+use Rattle.dictionary.specs.Position.{step}
 use Rattle.dictionary.specs.declared.Position.{Position}
 use Rattle.dictionary.specs.declared.Step.{Step}
 use Rattle.dictionary.specs.declared.Step.the-variants.{Line, Ended, Wrong}

@@ -13,14 +13,14 @@ pub struct LineReader<'a, 'b> {
 }
 
 // What a step from a position gives, over plain slices.
-pub fn step_at(dictionary: &[u32], imprints: &[u64], at: Position) -> Step
+fn step_at(dictionary: &[u32], imprints: &[u64], at: Position) -> Step
     ensures { λ r. ⌜ r ≡ step (now (dictionary .entry)) (now (imprints .entry)) at ⌝ }
 {
     at.step(dictionary, imprints)
 }
 
 // The position that the step hands back.
-pub fn position_after(dictionary: &[u32], imprints: &[u64], at: Position) -> Position
+fn position_after(dictionary: &[u32], imprints: &[u64], at: Position) -> Position
     ensures { λ r. ⌜ r ≡ handed-back (step (now (dictionary .entry)) (now (imprints .entry)) at) ⌝ }
 {
     match at.step(dictionary, imprints) {
