@@ -1,0 +1,148 @@
+-- The decoding: signed numbers of their bits, values put into a column one after the other, and which inputs are readable. Assumes nothing.
+use Prim.Native.Nat.{ℕ, suc, _+_, _-_, _*_, _/_, _%_, _<_, _≤_}
+use mathlib.Core.Path.{_≡_, refl, sym, _∙_, ap, subst}
+use mathlib.Core.List.{List, [], _∷_, map}
+use mathlib.Core.Bool.{Bool, true, false, cond, _&&_}
+use native.Mathlib.Omega.{arith}
+use native.Mathlib.Numerals.{add-one}
+use lib.Dec.{eqb, leb, ltb}
+use lib.IntN.{ℤ, pos, negsuc}
+use lib.ListN.{length, getD, set, take, length-map}
+use lib.Seq.{sets}
+use mir.Syntax.{w32}
+use mir.Val.{toZ, SFits}
+use mir.ValLaws.{toZ-pos, toZ-neg, toZ-fits}
+use borrow.Author.Tests.{lt-ltb, le-ltb, le-leb, lt-leb, eq-eqb, ne-eqb, leb-true, ltb-true, ltb-false}
+use Rattle.words.specs.Lists.{from, filled}
+use Rattle.words.proofs.ListLaws.{length-from, sets-filled, take-filled}
+use Rattle.range_text.specs.Input.{signed, bits-at, value-at, rows-of, column-of, readable, input-of, column-after, low-of, high-of, Decodes}
+use Rattle.range_text.specs.declared.Input.{Input}
+use Rattle.range_text.specs.declared.Input.the-variants.{Unreadable, Range}
+
+-- ---- signed numbers
+
+pub signed-pos : (x : ℕ) → x < 2147483648 → toZ w32 x ≡ signed x
+unfolding signed
+signed-pos x h = toZ-pos w32 x h ∙ rw (lt-ltb x 2147483648 h)
+
+pub signed-neg : (x : ℕ) → 2147483648 ≤ x → x < 4294967296 → toZ w32 (4294967295 - (4294967295 - x)) ≡ signed x
+unfolding signed
+signed-neg x h l =
+    let e : 4294967295 - (4294967295 - x) ≡ 4294967296 - suc (4294967295 - x) = omega arith in
+    let k : 4294967295 - x < 2147483648 = omega arith in
+    ap (toZ w32) e ∙ toZ-neg w32 (4294967295 - x) k ∙ rw (le-ltb x 2147483648 h)
+
+-- ---- values, one after the other
+
+module _ (f : ℕ → ℤ) (col all : List ℤ) (i n : ℕ) where
+  pub fill-next : i < n → sets col i (map f (from (i + 2) (n - i))) ≡ all → sets (set col i (f (i + 2))) (i + 1) (map f (from (i + 1 + 2) (n - (i + 1)))) ≡ all
+  fill-next h e =
+      let p : n - i ≡ suc (n - (i + 1)) = omega arith in
+      let q : i + 1 ≡ suc i = omega arith in
+      let q2 : i + 1 + 2 ≡ suc (i + 2) = omega arith in
+      (λ j. sets (set col i (f (i + 2))) (q j) (map f (from (q2 j) (n - (i + 1))))) ∙ sym (ap (λ (k : ℕ). sets col i (map f (from (i + 2) k))) p) ∙ e
+
+  pub fill-ends : n ≤ i → sets col i (map f (from (i + 2) (n - i))) ≡ all → col ≡ all
+  fill-ends h e = let p : n - i ≡ 0 = omega arith in sym (ap (λ (k : ℕ). sets col i (map f (from (i + 2) k))) p) ∙ e
+
+pub fill-starts : (s : List ℕ) (col : List ℤ) (n : ℕ) → n ≡ rows-of s → sets col 0 (map (value-at s) (from 2 (n - 0))) ≡ sets col 0 (column-of s)
+unfolding column-of
+fill-starts s col n e = let p : n - 0 ≡ rows-of s = omega arith in ap (λ (k : ℕ). sets col 0 (map (value-at s) (from 2 k))) p
+
+pub column-length : (s : List ℕ) → length (column-of s) ≡ rows-of s
+unfolding column-of
+column-length s = length-map (from 2 (rows-of s)) (value-at s) ∙ length-from (rows-of s) 2
+
+-- ---- which inputs are readable
+
+module _ (s : List ℕ) where
+  pub too-short : length s < 8 → readable s ≡ false
+  too-short h = rw (lt-leb 8 (length s) h)
+
+  pub no-fours : (length s % 4 ≡ 0 → ⊥) → readable s ≡ false
+  no-fours h = go (leb 8 (length s)) (ne-eqb (length s % 4) 0 h)
+    where
+      go : (b : Bool) → eqb (length s % 4) 0 ≡ false → (b && (eqb (length s % 4) 0 && leb (rows-of s) 8192)) ≡ false
+      go true e = rw e
+      go false e = refl
+
+  pub too-many : 8192 < rows-of s → readable s ≡ false
+  too-many h = go (leb 8 (length s)) (eqb (length s % 4) 0) (lt-leb (rows-of s) 8192 h)
+    where
+      go : (a b : Bool) → leb (rows-of s) 8192 ≡ false → (a && (b && leb (rows-of s) 8192)) ≡ false
+      go true true e = e
+      go true false e = refl
+      go false b e = refl
+
+  pub can-read : 8 ≤ length s → length s % 4 ≡ 0 → rows-of s ≤ 8192 → readable s ≡ true
+  can-read a b c = rw (le-leb 8 (length s) a, eq-eqb (length s % 4) 0 b, le-leb (rows-of s) 8192 c)
+
+  module _ (col : List ℤ) where
+    pub not-read : readable s ≡ false → Decodes s col Unreadable col
+    unfolding input-of column-after
+    not-read e = record { answers = rw e; column-is = rw e }
+
+    pub is-read : readable s ≡ true → (low high : ℤ) (n : ℕ) (col′ : List ℤ) → low ≡ low-of s → high ≡ high-of s → n ≡ rows-of s → n ≤ length col → col′ ≡ sets col 0 (column-of s) → Decodes s col (Range low high n) col′
+    unfolding input-of column-after
+    is-read e low high n col′ l h m r c =
+        record {
+          answers = rw e (λ j. Range (l j) (h j) (m j));
+          column-is = rw e (c ∙ sets-filled (column-of s) col (omega (arith, column-length s)));
+        }
+
+-- ---- what the decoding's promise comes to
+
+cases-range : (o : Bool) (r : Input) (a b : ℤ) (c : ℕ) (low high : ℤ) (n : ℕ) → r ≡ cond o (Range a b c) Unreadable → r ≡ Range low high n → (o ≡ true) × (low ≡ a) × (high ≡ b) × (n ≡ c)
+cases-range true r a b c low high n p q = (refl, (cc), (cc), (cc))
+cases-range false r a b c low high n p q = let z : _≡_ {A = ℕ} 0 1 = cc in absurd (omega arith)
+
+cases-unread : (o : Bool) (r : Input) (a b : ℤ) (c : ℕ) → r ≡ cond o (Range a b c) Unreadable → r ≡ Unreadable → o ≡ false
+cases-unread true r a b c p q = let z : _≡_ {A = ℕ} 0 1 = cc in absurd (omega arith)
+cases-unread false r a b c p q = refl
+
+pub readable-few : (s : List ℕ) → readable s ≡ true → rows-of s ≤ 8192
+readable-few s e = go (leb 8 (length s)) (eqb (length s % 4) 0) (leb (rows-of s) 8192) refl e
+  where
+    go : (a b c : Bool) → leb (rows-of s) 8192 ≡ c → (a && (b && c)) ≡ true → rows-of s ≤ 8192
+    go true true true p q = leb-true (rows-of s) 8192 p
+    go true true false p q = let z : _≡_ {A = ℕ} 0 1 = cc in absurd (omega arith)
+    go true false c p q = let z : _≡_ {A = ℕ} 0 1 = cc in absurd (omega arith)
+    go false b c p q = let z : _≡_ {A = ℕ} 0 1 = cc in absurd (omega arith)
+
+module _ {s : List ℕ} {col : List ℤ} {r : Input} {col′ : List ℤ} (p : Decodes s col r col′) where
+  pub was-unread : r ≡ Unreadable → readable s ≡ false
+  unfolding input-of
+  was-unread e = cases-unread (readable s) r (low-of s) (high-of s) (rows-of s) (p .answers) e
+
+  module _ (low high : ℤ) (n : ℕ) (e : r ≡ Range low high n) where
+    pub was-read : (readable s ≡ true) × (low ≡ low-of s) × (high ≡ high-of s) × (n ≡ rows-of s)
+    unfolding input-of
+    was-read = cases-range (readable s) r (low-of s) (high-of s) (rows-of s) low high n (p .answers) e
+
+    pub few-read : n ≤ 8192
+    few-read = omega (arith, was-read .3, readable-few s (was-read .0))
+
+    pub column-read : take n col′ ≡ column-of s
+    unfolding column-after
+    column-read =
+        let f : col′ ≡ filled (column-of s) col = rw (was-read .0) at (p .column-is) in
+        (λ j. take ((was-read .3 ∙ sym (column-length s)) j) (f j)) ∙ take-filled (column-of s) col
+
+-- ---- values are numbers of 32 bits
+
+signed-toZ : (n : ℕ) → n < 4294967296 → toZ w32 n ≡ signed n
+signed-toZ n h = go (ltb n 2147483648) refl
+  where
+    go : (b : Bool) → ltb n 2147483648 ≡ b → toZ w32 n ≡ signed n
+    go true e = signed-pos n (ltb-true n 2147483648 e)
+    go false e =
+        let l = ltb-false n 2147483648 e in
+        let q : n ≡ 4294967295 - (4294967295 - n) = omega arith in
+        ap (toZ w32) q ∙ signed-neg n l h
+
+bits-below : (s : List ℕ) (i : ℕ) → ((k : ℕ) → getD s k 0 < 256) → bits-at s i < 4294967296
+unfolding bits-at
+bits-below s i b = omega (arith, b (4 * i), b (4 * i + 1), b (4 * i + 2), b (4 * i + 3))
+
+pub value-fits : (s : List ℕ) (i : ℕ) → ((k : ℕ) → getD s k 0 < 256) → SFits w32 (value-at s i)
+value-fits s i b = subst (SFits w32) (signed-toZ (bits-at s i) (bits-below s i b)) (toZ-fits w32 (bits-at s i) (record { fits = bits-below s i b }))

@@ -1,0 +1,6 @@
+pub mod InputLaws
+pub mod PutsLaws
+pub mod DecimalLaws
+pub mod LengthLaws
+pub mod AnswerLaws
+pub mod WritesLaws

@@ -1,0 +1,80 @@
+-- `range_text::writing::put_found` meets its contract. Assumes nothing.
+use Prim.Native.Nat.{ℕ, _<_}
+use mathlib.Core.Path.{_≡_, refl, sym, _∙_, ap}
+use mathlib.Core.List.{List, [], _∷_, _++_}
+use native.Mathlib.Omega.{arith}
+use borrow.Author.Needs.{needs}
+use Rattle.range_text.specs.Text.{three, row-lines, found-text, rows-word, lines-word, borders-word, whole-word, compared-word, skipped-word}
+use Rattle.range_text.proofs.PutsLaws.{room-first, room-then, puts-then}
+use Rattle.range_text.proofs.writing.put_found.Statement.{statement}
+use Rattle.range_text.proofs.writing.put_found.Tie as tie
+use Rattle.range_text.proofs.writing.put_found.Reads as reads
+use Rattle.range_text.proofs.writing.put_found.Lts as lts
+use Rattle.range_text.proofs.writing.put_counts.Reads as put-counts-reads
+use Rattle.range_text.proofs.writing.put_rows.Reads as put-rows-reads
+use Rattle.range_text.proofs.writing.put_size.Reads as put-size-reads
+
+-- src/writing.rt:162:9
+put-size-requires : tie.Need-put-size-requires
+unfolding found-text
+put-size-requires c κs =
+    let s = c .before .before .before in
+    let a = s .args in
+    let o = a .out .now in
+    let u = three rows-word (a .rows) lines-word (a .lines) borders-word (a .borders) in
+    let v = three whole-word (a .whole) compared-word (a .compared) skipped-word (a .skipped) in
+    let w = row-lines (a .ids .now) in
+    let b = s .pre .0 in
+    let m = s .pre .1 .1 in
+    (b .0, b .1, b .2, room-first o 0 u v (room-first o 0 (u ++ v) w m))
+
+-- src/writing.rt:163:9
+put-counts-requires : tie.Need-put-counts-requires
+unfolding found-text
+put-counts-requires c κs =
+    let s = c .before .before .before .before .before .before .before in
+    let a = s .args in
+    let o = a .out .now in
+    let u = three rows-word (a .rows) lines-word (a .lines) borders-word (a .borders) in
+    let v = three whole-word (a .whole) compared-word (a .compared) skipped-word (a .skipped) in
+    let w = row-lines (a .ids .now) in
+    let b = s .pre .0 in
+    let m = s .pre .1 .1 in
+    (b .3, b .4, b .5, room-then o 0 u v (room-first o 0 (u ++ v) w m) _ _ (c .before .before .before .put-size .ensures))
+
+-- src/writing.rt:164:5
+put-rows-requires : tie.Need-put-rows-requires
+unfolding found-text
+put-rows-requires c κs =
+    let s = c .before .before .before .before .before .before .before .before .before .before .before in
+    let a = s .args in
+    let o = a .out .now in
+    let u = three rows-word (a .rows) lines-word (a .lines) borders-word (a .borders) in
+    let v = three whole-word (a .whole) compared-word (a .compared) skipped-word (a .skipped) in
+    let w = row-lines (a .ids .now) in
+    let b = s .pre .0 in
+    let m = s .pre .1 .1 in
+    (s .pre .1 .0, room-then o 0 (u ++ v) w m _ _ (puts-then o 0 u v (c .before .before .before .before .before .before .before .put-size .ensures) (c .before .before .before .put-counts .ensures)))
+
+-- src/writing.rt:147:1
+same-length : tie.Need-same-length
+same-length c = search needs
+
+-- src/writing.rt:147:1
+returns : tie.Need-returns
+unfolding found-text
+returns c =
+    let s = c .before .before .before .before .before .before .before .before .before .before .before .before .before .before in
+    let a = s .args in
+    let o = a .out .now in
+    let u = three rows-word (a .rows) lines-word (a .lines) borders-word (a .borders) in
+    let v = three whole-word (a .whole) compared-word (a .compared) skipped-word (a .skipped) in
+    let w = row-lines (a .ids .now) in
+    let b = s .pre .0 in
+    let m = s .pre .1 .1 in
+    puts-then o 0 (u ++ v) w (puts-then o 0 u v (c .before .before .before .before .before .before .before .before .before .before .put-size .ensures) (c .before .before .before .before .before .before .put-counts .ensures)) (c .before .before .put-rows .ensures)
+
+pub put-found-spec : {M : Type 1} → statement M
+put-found-spec =
+    tie.close
+    (tie.spec put-size-requires put-counts-requires put-rows-requires same-length returns)

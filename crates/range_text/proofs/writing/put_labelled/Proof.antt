@@ -1,0 +1,36 @@
+-- `range_text::writing::put_labelled` meets its contract. Assumes nothing.
+use Prim.Native.Nat.{ℕ, _<_}
+use mathlib.Core.Path.{_≡_, refl, sym, _∙_, ap}
+use mathlib.Core.List.{List, [], _∷_, _++_}
+use native.Mathlib.Omega.{arith}
+use borrow.Author.Needs.{needs}
+use Rattle.range_text.specs.Text.{decimal, labelled}
+use Rattle.range_text.proofs.PutsLaws.{room-first, room-then, puts-then}
+use Rattle.range_text.proofs.writing.put_labelled.Statement.{statement}
+use Rattle.range_text.proofs.writing.put_labelled.Tie as tie
+use Rattle.range_text.proofs.writing.put_labelled.Reads as reads
+use Rattle.range_text.proofs.writing.put_labelled.Lts as lts
+use Rattle.range_text.proofs.writing.put_number.Reads as put-number-reads
+use Rattle.range_text.proofs.writing.put_word.Reads as put-word-reads
+
+-- src/writing.rt:52:9
+put-word-requires : tie.Need-put-word-requires
+unfolding labelled
+put-word-requires c κs = let s = c .before .before .before in room-first (s .args .out .now) (s .args .at) (s .args .word .now) (decimal (s .args .n)) (s .pre .1)
+
+-- src/writing.rt:53:5
+put-number-requires : tie.Need-put-number-requires
+unfolding labelled
+put-number-requires c κs = let s = c .before .before .before .before .before .before .before in (s .pre .0, room-then (s .args .out .now) (s .args .at) (s .args .word .now) (decimal (s .args .n)) (s .pre .1) _ _ (c .before .before .before .put-word .ensures))
+
+-- src/writing.rt:48:1
+same-length : tie.Need-same-length
+same-length c = search needs
+
+-- src/writing.rt:48:1
+returns : tie.Need-returns
+unfolding labelled
+returns c = let s = c .before .before .before .before .before .before .before .before .before .before in puts-then (s .args .out .now) (s .args .at) (s .args .word .now) (decimal (s .args .n)) (c .before .before .before .before .before .before .put-word .ensures) (c .before .before .put-number .ensures)
+
+pub put-labelled-spec : {M : Type 1} → statement M
+put-labelled-spec = tie.close (tie.spec put-word-requires put-number-requires same-length returns)

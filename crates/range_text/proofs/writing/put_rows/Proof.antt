@@ -1,0 +1,86 @@
+-- `range_text::writing::put_rows` meets its contract: the lines still to come fix every byte. Assumes nothing.
+use Prim.Native.Nat.{ℕ, _<_, _≤_, _+_, _-_}
+use mathlib.Core.Path.{_≡_, refl, sym, _∙_, ap}
+use mathlib.Core.List.{List, [], _∷_, _++_}
+use native.Mathlib.Omega.{arith}
+use borrow.Author.Needs.{needs}
+use lib.ListN.{length, drop, getD}
+use Rattle.range_text.specs.Text.{row-line, row-lines}
+use Rattle.range_text.proofs.PutsLaws.{puts-as, rows-more, rows-none, Rest, rest-starts, rest-room, rest-next, rest-ends}
+use Rattle.range_text.proofs.writing.put_rows.Statement.{statement}
+use Rattle.range_text.proofs.writing.put_rows.Tie as tie
+use Rattle.range_text.proofs.writing.put_rows.Reads as reads
+use Rattle.range_text.proofs.writing.put_rows.Lts as lts
+use Rattle.range_text.proofs.writing.put_row.Reads as put-row-reads
+use Rattle.range_text.proofs.writing.wide.Reads as wide-reads
+
+abbrev Inv-loop : tie.InvT-loop
+Inv-loop out₀ at rows here₀ i₀ out here i = (i ≤ length rows) × Rest out₀ at (row-lines rows) out here (row-lines (drop i rows))
+
+abbrev μ-loop : tie.MeasureT-loop
+μ-loop out₀ at rows here₀ i₀ out here i = length rows - i
+
+-- src/writing.rt:98:5
+loop-holds : tie.Need-loop-holds Inv-loop μ-loop
+loop-holds c = let a = c .before .before .args in (omega arith, rest-starts (a .out .now) (a .at) (row-lines (a .rows .now)))
+
+-- src/writing.rt:99:46
+mul-wide : tie.Need-mul-wide Inv-loop μ-loop
+mul-wide c = omega arith
+
+-- src/writing.rt:99:46
+shared-slice-read-wide : tie.Need-shared-slice-read-wide Inv-loop μ-loop
+shared-slice-read-wide c = omega arith
+
+-- src/writing.rt:99:41
+wide-requires : tie.Need-wide-requires Inv-loop μ-loop
+wide-requires c κs = search needs
+
+-- src/writing.rt:99:9
+put-row-requires : tie.Need-put-row-requires Inv-loop μ-loop
+put-row-requires c κs =
+    let s = c .before .before .before .before .before .before .before in
+    let rows = s .args .rows .now in
+    let l = c .before .before .before .before .loop in
+    rw (c .wide .ensures) (s .pre .0 (l .i), rest-room (l .inv .1) (row-line (getD rows (l .i) 0)) (row-lines (drop (l .i + 1) rows)) (rows-more rows (l .i) (c .before .before .before .loop-test .taken)) (s .pre .1))
+
+-- src/writing.rt:100:9
+add-i : tie.Need-add-i Inv-loop μ-loop
+add-i c = omega arith
+
+-- src/writing.rt:98:5
+loop-less : tie.Need-loop-less Inv-loop μ-loop
+loop-less c = omega arith
+
+-- src/writing.rt:98:5
+loop-again : tie.Need-loop-again Inv-loop μ-loop
+loop-again c =
+    let rows = c .before .before .before .before .before .before .before .before .before .before .args .rows .now in
+    let l = c .before .before .before .before .before .before .before .loop in
+    let u = row-line (getD rows (l .i) 0) in
+    (omega arith, rest-next (l .inv .1) u (row-lines (drop (l .i + 1) rows)) (rows-more rows (l .i) (c .before .before .before .before .before .before .loop-test .taken)) (puts-as u (ap row-line (c .before .before .before .wide .ensures)) (c .before .before .put-row .ensures)))
+
+-- src/writing.rt:91:1
+same-length : tie.Need-same-length Inv-loop μ-loop
+same-length c = let l = c .before .loop .inv .1 .same in search needs
+
+-- src/writing.rt:91:1
+returns : tie.Need-returns Inv-loop μ-loop
+returns c = let l = c .before .loop in let rows = c .before .before .before .before .args .rows .now in rest-ends (l .inv .1) (rows-none rows (l .i) (c .loop-test .left))
+
+pub put-rows-spec : {M : Type 1} → statement M
+put-rows-spec =
+    tie.close
+    (tie.spec
+    Inv-loop
+    μ-loop
+    loop-holds
+    mul-wide
+    shared-slice-read-wide
+    wide-requires
+    put-row-requires
+    add-i
+    loop-less
+    loop-again
+    same-length
+    returns)

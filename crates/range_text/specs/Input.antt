@@ -1,0 +1,50 @@
+-- Document 01, "The program reads from standard input": low, high, then up to 8,192 values, each 4 bytes, low byte first. Assumes nothing.
+use Prim.Native.Nat.{ℕ, _+_, _-_, _*_, _/_, _%_, _^_}
+use mathlib.Core.Path.{_≡_}
+use mathlib.Core.List.{List, map}
+use mathlib.Core.Bool.{Bool, cond, _&&_}
+use lib.Dec.{eqb, leb, ltb}
+use lib.IntN.{ℤ, pos, negsuc}
+use lib.ListN.{length, getD}
+use Rattle.words.specs.Lists.{from, filled}
+use Rattle.range_text.specs.declared.Input.{Input}
+use Rattle.range_text.specs.declared.Input.the-variants.{Unreadable, Range}
+
+-- the signed number of 32 bits: those from 2^31 on stand for -2^31 to -1
+unfoldable pub signed : ℕ → ℤ
+signed w = cond (ltb w 2147483648) (pos w) (negsuc (4294967295 - w))
+
+-- value i of an input: its bytes 4i to 4i + 3, low byte first
+unfoldable pub bits-at : List ℕ → ℕ → ℕ
+bits-at s i = getD s (4 * i) 0 + getD s (4 * i + 1) 0 * 256 + getD s (4 * i + 2) 0 * 65536 + getD s (4 * i + 3) 0 * 16777216
+
+abbrev pub value-at : List ℕ → ℕ → ℤ
+value-at s i = signed (bits-at s i)
+
+abbrev pub low-of : List ℕ → ℤ
+low-of s = value-at s 0
+
+abbrev pub high-of : List ℕ → ℤ
+high-of s = value-at s 1
+
+-- how many values come after low and high, and those values
+abbrev pub rows-of : List ℕ → ℕ
+rows-of s = length s / 4 - 2
+
+unfoldable pub column-of : List ℕ → List ℤ
+column-of s = map (value-at s) (from 2 (rows-of s))
+
+-- at least 8 bytes, a multiple of 4, at most 8,192 values after low and high
+abbrev pub readable : List ℕ → Bool
+readable s = leb 8 (length s) && (eqb (length s % 4) 0 && leb (rows-of s) 8192)
+
+-- what the decoding answers, and the lent column afterwards
+unfoldable pub input-of : List ℕ → Input
+input-of s = cond (readable s) (Range (low-of s) (high-of s) (rows-of s)) Unreadable
+
+unfoldable pub column-after : List ℕ → List ℤ → List ℤ
+column-after s col = cond (readable s) (filled (column-of s) col) col
+
+pub record Decodes (s : List ℕ) (col : List ℤ) (r : Input) (col′ : List ℤ) : Type 0 where
+  pub answers : r ≡ input-of s
+  pub column-is : col′ ≡ column-after s col
