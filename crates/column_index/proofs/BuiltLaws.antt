@@ -17,8 +17,8 @@ use Rattle.bins.proofs.BorderLaws.{borders-rising}
 use Rattle.dictionary.specs.Dictionary.{fit, largest, pack, unpack, accepted}
 use Rattle.dictionary.proofs.IndexLaws.{pack-accepted, unpack-pack}
 use Rattle.column_index.specs.Index.{line-count, packed-with, built, is-index-for}
-use Rattle.column_index.specs.Search.{scan, search-by, search}
-use Rattle.column_index.proofs.SearchLaws.{InKind, search-scan}
+use Rattle.run_search.specs.Search.{scan, search-by, search}
+use Rattle.run_search.proofs.SearchLaws.{InKind, search-scan}
 
 both : (a b : Bool) → a ≡ true → b ≡ true → (a && b) ≡ true
 both a b h k = and-eq-true-iff a b .1 (h, k)

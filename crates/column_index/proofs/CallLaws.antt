@@ -24,14 +24,14 @@ use Rattle.dictionary.specs.Dictionary.{Entry, plain, repeat, entries, entry-wo
 use Rattle.dictionary.proofs.IndexLaws.{pack-unpack, accepted-lines}
 use Rattle.dictionary.proofs.PositionLaws.{Sized, entries-sized}
 use Rattle.column_index.specs.Index.{line-count, is-index-for}
-use Rattle.column_index.specs.Search.{Answer, nothing, with-line, search, search-by}
-use Rattle.column_index.specs.Runs.{Asked, asking, fate-in, values, through, entry-kept, Readable}
+use Rattle.run_search.specs.Search.{Answer, nothing, with-line, search, search-by}
+use Rattle.run_search.specs.Runs.{Asked, asking, fate-in, values, through, entry-kept, Readable}
 use Rattle.column_index.specs.Promise.{most-rows, checked-answer, search-answer, search-room, search-number, Searches}
 use Rattle.column_index.specs.declared.IndexCheck.{IndexCheck}
 use Rattle.column_index.specs.declared.IndexCheck.the-variants as checking
 use Rattle.column_index.specs.declared.SearchAnswer.{SearchAnswer}
 use Rattle.column_index.specs.declared.SearchAnswer.the-variants as searching
-use Rattle.column_index.proofs.RunLaws.{search-through}
+use Rattle.run_search.proofs.RunLaws.{search-through}
 
 -- ---- an accepted index can be read entry by entry
 

@@ -17,7 +17,7 @@ use Rattle.bins.proofs.BorderLaws.{borders-rising, borders-count}
 use Rattle.dictionary.specs.Dictionary.{pack, unpack, largest, fit, accepted}
 use Rattle.dictionary.proofs.IndexLaws.{unpack-pack, pack-unpack, accepted-lines, pack-accepted}
 use Rattle.column_index.specs.Index.{built, is-index-for}
-use Rattle.column_index.specs.Search.{Answer, scan, search-by}
+use Rattle.run_search.specs.Search.{Answer, scan, search-by}
 use Rattle.column_index.specs.Promise.{Builds, build-answer, build-number, Packs, pack-answer, pack-number, Unpacks, unpack-answer, unpack-number, Searches, search-answer, most-rows, most-lines}
 use Rattle.column_index.specs.declared.BuildAnswer.{BuildAnswer}
 use Rattle.column_index.specs.declared.BuildAnswer.the-variants as build
@@ -27,9 +27,9 @@ use Rattle.column_index.specs.declared.UnpackAnswer.{UnpackAnswer}
 use Rattle.column_index.specs.declared.UnpackAnswer.the-variants as unpacking
 use Rattle.column_index.specs.declared.SearchAnswer.{SearchAnswer}
 use Rattle.column_index.specs.declared.SearchAnswer.the-variants as searching
-use Rattle.column_index.proofs.SearchLaws.{InKind}
+use Rattle.run_search.proofs.SearchLaws.{InKind}
 use Rattle.column_index.proofs.BuiltLaws.{built-accepted, built-scan}
-use Rattle.column_index.proofs.RowsLaws.{Rises, search-rises}
+use Rattle.run_search.proofs.RowsLaws.{Rises, search-rises}
 
 -- the front of a space that xs filled, by their number
 front {ℓ} : {A : Type ℓ} (n : ℕ) (xs l l′ : List A) → n ≡ length xs → l′ ≡ filled xs l → take n l′ ≡ xs

@@ -13,7 +13,7 @@ use Rattle.words.specs.Lists.{after, filled}
 use Rattle.words.proofs.ListLaws.{after-keeps, take-filled}
 use Rattle.bins.specs.Bins.{readings, good-borders}
 use Rattle.column_index.specs.Index.{is-index-for}
-use Rattle.column_index.specs.Search.{search-by}
+use Rattle.run_search.specs.Search.{search-by}
 use Rattle.column_index.specs.Promise.{Builds, build-number, Packs, pack-number, Unpacks, unpack-number, Searches, search-number, most-rows, search-answer, search-words, listed-by, handed, Fronts}
 use Rattle.column_index.specs.declared.BuildAnswer.{BuildAnswer}
 use Rattle.column_index.specs.declared.PackAnswer.{PackAnswer}

@@ -1,4 +1,2 @@
 pub mod Index
-pub mod Search
 pub mod Promise
-pub mod Runs

@@ -12,7 +12,7 @@ use Rattle.words.specs.Lists.{every, after}
 use Rattle.bins.specs.Bins.{readings, borders, good-borders, bins}
 use Rattle.dictionary.specs.Dictionary.{pack, unpack, largest, fit, accepted}
 use Rattle.column_index.specs.Index.{built, is-index-for}
-use Rattle.column_index.specs.Search.{Answer, search-by}
+use Rattle.run_search.specs.Search.{Answer, search-by}
 use Rattle.column_index.specs.declared.BuildAnswer.{BuildAnswer}
 use Rattle.column_index.specs.declared.BuildAnswer.the-variants as build
 use Rattle.column_index.specs.declared.PackAnswer.{PackAnswer}

@@ -1,11 +1,9 @@
 // The index part: build, pack, unpack and range search over a lent column.
 
-pub mod rows; // rows.rt: the rows of a range, counted entry by entry
-pub mod listed; // listed.rt: the same rows, listed
 pub mod made; // made.rt: build, pack and unpack
 
-use rows::Ask;
-use rows::Tally;
+use run_search::rows::Ask;
+use run_search::rows::Tally;
 ghost use mathlib.Core.Path.{_≡_};
 ghost use Prim.Native.Nat.{_≤_};
 ghost use lib.ListN.{length};
@@ -14,7 +12,7 @@ ghost use Rattle.words.specs.Lists.{after};
 ghost use Rattle.words.specs.Numbers.{numbered};
 ghost use Rattle.bins.specs.Bins.{readings};
 ghost use Rattle.dictionary.specs.Dictionary.{unpack};
-ghost use Rattle.column_index.specs.Runs.{asked-of, through, Readable};
+ghost use Rattle.run_search.specs.Runs.{asked-of, through, Readable};
 ghost use Rattle.column_index.specs.Promise.{Searches, search-room, search-number, checked-answer, search-words, listed-by, Fronts};
 
 // What build answers: the lengths of the three parts; a column that is too long; or the first space that is too short, with the length needed.
@@ -105,12 +103,12 @@ fn find(
     requires { ⌜ (Readable (now dictionary) (now imprints)) × (length (unpack (now dictionary) (now imprints)) ≤ 1048576) × (length (now column) ≤ 16777216) ⌝ }
     ensures { λ r. ⌜ (r ≡ search-room (through readings (asked-of ask) (now (column .entry)) 0 (unpack (now (dictionary .entry)) (now (imprints .entry)))) (length (now (rows .entry)))) × (now (rows .exit) ≡ after (numbered (search-number r)) (through readings (asked-of ask) (now (column .entry)) 0 (unpack (now (dictionary .entry)) (now (imprints .entry))) .ids) (now (rows .entry))) ⌝ }
 {
-    let t = rows::count_all(column, imprints, dictionary, ask);
+    let t = run_search::rows::count_all(column, imprints, dictionary, ask);
     let n = t.rows;
     if rows.len() < n {
         return SearchAnswer::Short(n);
     }
-    listed::fill_all(rows, column, imprints, dictionary, ask);
+    run_search::listed::fill_all(rows, column, imprints, dictionary, ask);
     SearchAnswer::Done {
         rows: n,
         skipped: t.skipped,

@@ -7,9 +7,9 @@ use native.Mathlib.Omega.{arith}
 use native.Mathlib.Numerals.{add-one}
 use lib.ListN.{length, getD, take, drop, set, replicate, length-take, length-drop, length-set, length-replicate, length-append, drop-of-length-le}
 use lib.Seq.{sets, length-sets, slice-cons, take-all, drop-cons, drop-drop}
+use Rattle.words.proofs.ListLaws.{sets-append}
 use Rattle.dictionary.specs.Dictionary.{count-of, repeated, unpack}
 use Rattle.dictionary.specs.Entries.{uses, lines-in}
-use Rattle.dictionary.proofs.PackLoops.{sets-append}
 
 -- ---- copying
 

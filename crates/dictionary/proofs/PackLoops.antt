@@ -4,13 +4,13 @@ use mathlib.Core.Path.{_≡_, refl, sym, _∙_, ap}
 use mathlib.Core.List.{List, [], _∷_, _++_}
 use mathlib.Core.Bool.{Bool, true, false, cond}
 use native.Mathlib.Omega.{arith}
-use native.Mathlib.Nat.{add-zero}
 use native.Mathlib.Numerals.{add-one}
 use lib.Dec.{eqb, lit≤}
 use lib.Arith.{lt-of-le-ne}
 use lib.ListN.{length, getD, drop, set, length-append, drop-of-length-le}
 use lib.Seq.{sets, length-sets, drop-cons}
 use borrow.Author.Tests.{eqb-false}
+use Rattle.words.proofs.ListLaws.{sets-append}
 use Rattle.dictionary.specs.Dictionary.{largest, pack}
 use Rattle.dictionary.specs.declared.packing.Open.{Open}
 use Rattle.dictionary.specs.declared.packing.Open.the-variants.{Nothing, Lone, Run, Spill}
@@ -135,11 +135,6 @@ module _ (ws : List ℕ) (p : Packer) (rest : List ℕ) where
   kept-within m = omega (arith, m .of-kept)
 
 -- ---- writing: from the spaces d₀ and i₀ to d and i so far
-
--- stores one after the other
-pub sets-append : (xs ys l : List ℕ) (at : ℕ) → sets l at (xs ++ ys) ≡ sets (sets l at xs) (at + length xs) ys
-sets-append [] ys l at = ap (λ (n : ℕ). sets l n ys) (sym (add-zero at))
-sets-append (x ∷ xs) ys l at = sets-append xs ys (set l at x) (suc at) ∙ ap (λ (n : ℕ). sets (sets (set l at x) (suc at) xs) n ys) (omega arith)
 
 pub record Writing (ws : List ℕ) (i₀ d₀ : List ℕ) (p : Packer) (rest : List ℕ) (i d : List ℕ) : Type 0 where
   pub measured : Measuring ws p rest

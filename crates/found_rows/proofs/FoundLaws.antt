@@ -7,7 +7,7 @@ use lib.ListN.{length}
 use Rattle.words.specs.Lists.{after}
 use Rattle.words.specs.Numbers.{numbered}
 use Rattle.bins.specs.Bins.{readings}
-use Rattle.column_index.specs.Search.{search-by}
+use Rattle.run_search.specs.Search.{search-by}
 use Rattle.column_index.specs.Promise.{Searches, search-number}
 use Rattle.column_index.specs.declared.SearchAnswer.{SearchAnswer}
 use Rattle.found_rows.specs.Whole.{figures-of, found, rows-after}

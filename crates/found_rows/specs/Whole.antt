@@ -7,7 +7,7 @@ use denote.Ref.{RefT, now, at-last}
 use Rattle.words.specs.Lists.{after}
 use Rattle.words.specs.Numbers.{numbered}
 use Rattle.bins.specs.Bins.{readings}
-use Rattle.column_index.specs.Search.{search-by}
+use Rattle.run_search.specs.Search.{search-by}
 use Rattle.column_index.specs.Promise.{search-answer, search-number}
 use Rattle.column_index.specs.declared.SearchAnswer.{SearchAnswer}
 use Rattle.column_index.specs.declared.SearchAnswer.the-variants as searching

@@ -11,7 +11,7 @@ use lib.ListN.{length}
 use borrow.Author.Tests.{le-ltb}
 use Rattle.words.specs.Lists.{has, every}
 use Rattle.bins.specs.Bins.{readings}
-use Rattle.column_index.specs.Search.{search-by, scan}
+use Rattle.run_search.specs.Search.{search-by, scan}
 use Rattle.range_filter.specs.Tree.{treeOf, splits, paint}
 use Rattle.range_filter.specs.Layout.{Memory, treeIn, Filter}
 use Rattle.range_filter.specs.Calls.{tooMany}

@@ -15,7 +15,7 @@ use borrow.Author.Tests.{ltb-false, leb-false, le-ltb, lt-leb, eqb-false}
 use Rattle.words.specs.Lists.{after, filled}
 use Rattle.words.specs.Numbers.{numbered}
 use Rattle.bins.specs.Bins.{readings}
-use Rattle.column_index.specs.Search.{Answer, nothing, search-by}
+use Rattle.run_search.specs.Search.{Answer, nothing, search-by}
 use Rattle.column_index.specs.Promise.{checked-answer, search-answer, search-room, search-number, Searches}
 use Rattle.column_index.specs.declared.IndexCheck.{IndexCheck}
 use Rattle.column_index.specs.declared.IndexCheck.the-variants as checking

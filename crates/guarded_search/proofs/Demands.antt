@@ -10,14 +10,14 @@ use lib.ListN.{length, take}
 use lib.Signed.{ltZ}
 use Rattle.words.specs.Numbers.{numbered}
 use Rattle.bins.specs.Bins.{readings}
-use Rattle.column_index.specs.Search.{search-by, scan}
+use Rattle.run_search.specs.Search.{search-by, scan}
 use Rattle.column_index.specs.Promise.{build-number, Builds, pack-number, Packs, unpack-number, Unpacks, search-number, Searches}
 use Rattle.column_index.specs.declared.BuildAnswer.{BuildAnswer}
 use Rattle.column_index.specs.declared.BuildAnswer.the-variants as build
 use Rattle.column_index.specs.declared.PackAnswer.{PackAnswer}
 use Rattle.column_index.specs.declared.UnpackAnswer.{UnpackAnswer}
 use Rattle.column_index.specs.declared.SearchAnswer.{SearchAnswer}
-use Rattle.column_index.proofs.SearchLaws.{InKind}
+use Rattle.run_search.proofs.SearchLaws.{InKind}
 use Rattle.column_index.proofs.BuiltLaws.{built-scan}
 use Rattle.column_index.proofs.MadeLaws.{builds-all, Lists-the-scan, searches-built}
 use Rattle.column_index.proofs.PromiseLaws.{builds-keeps, packs-keeps, unpacks-keeps, searches-keeps}

@@ -11,7 +11,7 @@ use borrow.Author.Tests.{ltb-false, leb-false}
 use Rattle.words.specs.Lists.{has, after}
 use Rattle.words.proofs.ListLaws.{take-filled}
 use Rattle.bins.specs.Bins.{readings}
-use Rattle.column_index.specs.Search.{Answer, search-by, scan}
+use Rattle.run_search.specs.Search.{Answer, search-by, scan}
 use Rattle.column_index.specs.Promise.{checked-answer}
 use Rattle.column_index.specs.declared.IndexCheck.{IndexCheck}
 use Rattle.column_index.specs.declared.IndexCheck.the-variants as checking

@@ -5,7 +5,7 @@ use Rattle.words.specs.Bits.{share, outside}
 use Rattle.bins.specs.Bins.{sampled, sample, spread, borders-of, borders-sorted, borders, bin, imprint, imprints}
 use Rattle.bins.specs.Masks.{matches, asked, inside, mask, inner, fate}
 use Rattle.dictionary.specs.Dictionary.{entries, pack}
-use Rattle.column_index.specs.Search.{fates, search}
+use Rattle.run_search.specs.Search.{fates, search}
 use Rattle.range_filter.specs.Tree.{treeOf}
 use Rattle.guarded_search.specs.Examples.{all-hold, P1-to-P12}
 

@@ -11,7 +11,7 @@ use lib.Signed.{leZ}
 use borrow.Author.Tests.{ltb-true, ltb-false, leb-true, leb-false, le-ltb}
 use Rattle.bins.specs.Bins.{Kind, readings}
 use Rattle.bins.specs.Masks.{matches}
-use Rattle.column_index.specs.Search.{Answer, nothing, search-by, scan}
+use Rattle.run_search.specs.Search.{Answer, nothing, search-by, scan}
 use Rattle.column_index.specs.Promise.{checked-answer}
 use Rattle.column_index.specs.declared.IndexCheck.{IndexCheck}
 use Rattle.column_index.specs.declared.IndexCheck.the-variants as checking

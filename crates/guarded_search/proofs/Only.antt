@@ -11,7 +11,7 @@ use lib.ListN.{length, take, drop, length-append}
 use Rattle.words.specs.Lists.{after}
 use Rattle.words.proofs.ListLaws.{after-keeps}
 use Rattle.bins.specs.Bins.{readings}
-use Rattle.column_index.specs.Search.{Answer}
+use Rattle.run_search.specs.Search.{Answer}
 use Rattle.column_index.specs.Promise.{checked-answer}
 use Rattle.column_index.specs.declared.IndexCheck.{IndexCheck}
 use Rattle.column_index.specs.declared.IndexCheck.the-variants as checking

@@ -11,7 +11,7 @@ use lib.ListN.{length}
 use borrow.Author.Tests.{ltb-false, le-ltb, lt-leb, eq-eqb}
 use Rattle.words.specs.Lists.{has}
 use Rattle.bins.specs.Bins.{readings}
-use Rattle.column_index.specs.Search.{Answer, search-by}
+use Rattle.run_search.specs.Search.{Answer, search-by}
 use Rattle.column_index.specs.Promise.{checked-answer}
 use Rattle.column_index.specs.declared.IndexCheck.{IndexCheck}
 use Rattle.column_index.specs.declared.IndexCheck.the-variants as checking

@@ -5,7 +5,7 @@ use mathlib.Core.Bool.{Bool, true, false, cond, _&&_, _||_}
 use lib.Dec.{ltb, leb}
 use lib.IntN.{ℤ, pos, negsuc}
 use Rattle.bins.specs.Bins.{Kind}
-use Rattle.column_index.specs.Search.{Answer, nothing, search-by}
+use Rattle.run_search.specs.Search.{Answer, nothing, search-by}
 use Rattle.range_filter.specs.Layout.{Memory}
 use Rattle.range_filter.specs.Calls.{allIn, learnt, tooMany}
 use Rattle.guarded_search.specs.declared.Outcome.{Outcome}

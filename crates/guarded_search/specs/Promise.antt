@@ -9,7 +9,7 @@ use lib.ListN.{length, take}
 use Rattle.words.specs.Lists.{after}
 use Rattle.words.specs.Numbers.{numbered, done, low-above-high, column-too-long, no-index, space-too-short, bad-borders, no-key, no-filter}
 use Rattle.bins.specs.Bins.{readings}
-use Rattle.column_index.specs.Search.{Answer}
+use Rattle.run_search.specs.Search.{Answer}
 use Rattle.column_index.specs.Promise.{checked-answer}
 use Rattle.column_index.specs.declared.IndexCheck.{IndexCheck}
 use Rattle.column_index.specs.declared.IndexCheck.the-variants as checking

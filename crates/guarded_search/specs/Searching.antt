@@ -7,7 +7,7 @@ use lib.IntN.{ℤ, pos}
 use lib.ListN.{take}
 use Rattle.words.specs.Lists.{has, every}
 use Rattle.bins.specs.Bins.{readings}
-use Rattle.column_index.specs.Search.{scan}
+use Rattle.run_search.specs.Search.{scan}
 use Rattle.guarded_search.specs.Guarded.{gap-low}
 use Rattle.guarded_search.specs.Gaps.{gap-start}
 use Rattle.guarded_search.specs.Promise.{Guards}

@@ -268,56 +268,66 @@ fn at(entry: usize, place: usize, number: usize) -> Position {
     }
 }
 
-// Column A's index: 5, 20; 16777218, 1; 2, 4. Every number of pack, unpack, step and search.
-fn numbers() {
-    text(b"every number\n");
-    let borders = [5i32, 20];
-    let fallen = [20i32, 5];
+// Every number of pack: the list of column A, with borders 5, 20.
+fn packs(borders: &[i32], fallen: &[i32]) {
     let list = [2u64, 2, 4];
     let unfit = [2u64, 8, 4];
     let mut imprints = [0u64; 3];
     let mut dictionary = [0u32; 3];
-    packed(column_index::made::pack(&list, &borders, &mut imprints, &mut dictionary));
-    packed(column_index::made::pack(&list, &fallen, &mut imprints, &mut dictionary));
-    packed(column_index::made::pack(&unfit, &borders, &mut imprints, &mut dictionary));
-    packed(column_index::made::pack(
-        &list,
-        &borders,
-        space_u64(&mut imprints, 1),
-        &mut dictionary,
-    ));
-    packed(column_index::made::pack(
-        &list,
-        &borders,
-        &mut imprints,
-        space_u32(&mut dictionary, 1),
-    ));
+    packed(column_index::made::pack(&list, borders, &mut imprints, &mut dictionary));
+    packed(column_index::made::pack(&list, fallen, &mut imprints, &mut dictionary));
+    packed(column_index::made::pack(&unfit, borders, &mut imprints, &mut dictionary));
+    packed(column_index::made::pack(&list, borders, space_u64(&mut imprints, 1), &mut dictionary));
+    packed(column_index::made::pack(&list, borders, &mut imprints, space_u32(&mut dictionary, 1)));
+}
+
+// Every number of unpack.
+fn unpacks(borders: &[i32], fallen: &[i32], imprints: &[u64], dictionary: &[u32]) {
     let mut back = [0u64; 3];
-    let is = front_u64(&imprints, 2);
-    let ds = front_u32(&dictionary, 2);
-    unpacked(column_index::made::unpack(&borders, is, ds, 3, &mut back));
-    unpacked(column_index::made::unpack(&borders, is, ds, 1048577, &mut back));
-    unpacked(column_index::made::unpack(&fallen, is, ds, 3, &mut back));
-    unpacked(column_index::made::unpack(&borders, is, ds, 4, &mut back));
-    unpacked(column_index::made::unpack(&borders, is, ds, 3, space_u64(&mut back, 2)));
-    stepped(at(0, 0, 0), ds, is);
-    stepped(at(0, 1, 0), ds, is);
-    stepped(at(1, 0, 1), ds, is);
-    stepped(at(2, 7, 9), ds, is);
-    stepped(at(3, 0, 0), ds, is);
-    stepped(at(0, 2, 0), ds, is);
-    stepped(at(0, 0, 2), ds, is);
+    unpacked(column_index::made::unpack(borders, imprints, dictionary, 3, &mut back));
+    unpacked(column_index::made::unpack(borders, imprints, dictionary, 1048577, &mut back));
+    unpacked(column_index::made::unpack(fallen, imprints, dictionary, 3, &mut back));
+    unpacked(column_index::made::unpack(borders, imprints, dictionary, 4, &mut back));
+    unpacked(column_index::made::unpack(borders, imprints, dictionary, 3, space_u64(&mut back, 2)));
+}
+
+// Every number of a step.
+fn steps(imprints: &[u64], dictionary: &[u32]) {
+    stepped(at(0, 0, 0), dictionary, imprints);
+    stepped(at(0, 1, 0), dictionary, imprints);
+    stepped(at(1, 0, 1), dictionary, imprints);
+    stepped(at(2, 7, 9), dictionary, imprints);
+    stepped(at(3, 0, 0), dictionary, imprints);
+    stepped(at(0, 2, 0), dictionary, imprints);
+    stepped(at(0, 0, 2), dictionary, imprints);
+}
+
+// Every number of the range search but 2.
+fn refusals(borders: &[i32], fallen: &[i32], imprints: &[u64], dictionary: &[u32]) {
     let column = [5i32; 40];
-    search(&column, &borders, is, ds, 6, 5);
-    search(&column, &fallen, is, ds, 5, 6);
-    search(&column, &borders, is, front_u32(ds, 1), 5, 6);
-    search(&column, &borders, is, ds, 5, 6);
+    search(&column, borders, imprints, dictionary, 6, 5);
+    search(&column, fallen, imprints, dictionary, 5, 6);
+    search(&column, borders, imprints, front_u32(dictionary, 1), 5, 6);
+    search(&column, borders, imprints, dictionary, 5, 6);
     let mut rows = [0u32; 31];
     text(b"    search:");
     found(
-        column_index::search(&column, &borders, is, ds, 5, 19, &mut rows),
+        column_index::search(&column, borders, imprints, dictionary, 5, 19, &mut rows),
         &rows,
     );
+}
+
+// Every number of pack, unpack, step and search. Column A's index: 5, 20; 16777218, 1; 2, 4.
+fn numbers() {
+    text(b"every number\n");
+    let borders = [5i32, 20];
+    let fallen = [20i32, 5];
+    let imprints = [2u64, 4];
+    let dictionary = [16777218u32, 1];
+    packs(&borders, &fallen);
+    unpacks(&borders, &fallen, &imprints, &dictionary);
+    steps(&imprints, &dictionary);
+    refusals(&borders, &fallen, &imprints, &dictionary);
 }
 
 // The first short space counts: borders, then imprints, then dictionary.

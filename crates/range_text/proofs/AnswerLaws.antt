@@ -17,7 +17,7 @@ use Rattle.bins.specs.Bins.{readings, borders, good-borders, rising}
 use Rattle.bins.proofs.BorderLaws.{borders-count, borders-rising}
 use Rattle.dictionary.specs.Dictionary.{unpack}
 use Rattle.column_index.specs.Index.{built, line-count, is-index-for}
-use Rattle.column_index.specs.Search.{search-by}
+use Rattle.run_search.specs.Search.{search-by}
 use Rattle.column_index.specs.Promise.{Builds, build-answer, build-number, Searches, search-answer, search-number, most-rows}
 use Rattle.column_index.specs.declared.BuildAnswer.{BuildAnswer}
 use Rattle.column_index.specs.declared.BuildAnswer.the-variants as build
@@ -25,7 +25,7 @@ use Rattle.column_index.specs.declared.SearchAnswer.{SearchAnswer}
 use Rattle.column_index.specs.declared.SearchAnswer.the-variants as searching
 use Rattle.column_index.proofs.BuiltLaws.{built-accepted}
 use Rattle.column_index.proofs.ColumnLaws.{column-imps-short, column-dict-short}
-use Rattle.column_index.proofs.RowsLaws.{search-rises}
+use Rattle.run_search.proofs.RowsLaws.{search-rises}
 use Rattle.column_index.proofs.MadeLaws.{Built-all, builds-all}
 use Rattle.range_text.specs.Puts.{Room}
 use Rattle.range_text.specs.Text.{found-in, found-text, range-text, refused-line}

@@ -7,20 +7,20 @@ use lib.ListN.{length}
 use Rattle.words.proofs.ListLaws.{sets-filled}
 use Rattle.bins.specs.Bins.{readings}
 use Rattle.dictionary.specs.Dictionary.{unpack}
-use Rattle.column_index.specs.Search.{Answer}
-use Rattle.column_index.specs.Runs.{asked-of, through, tally, plus}
-use Rattle.column_index.specs.declared.rows.Tally.{Tally}
+use Rattle.run_search.specs.Search.{Answer}
+use Rattle.run_search.specs.Runs.{asked-of, through, tally, plus}
+use Rattle.run_search.specs.declared.rows.Tally.{Tally}
 use Rattle.column_index.specs.declared.SearchAnswer.{SearchAnswer}
 use Rattle.column_index.specs.declared.SearchAnswer.the-variants as searching
-use Rattle.column_index.proofs.RunLaws.{plus-none}
+use Rattle.run_search.proofs.RunLaws.{plus-none}
 use Rattle.column_index.proofs.CallLaws.{room-short, room-done}
 use borrow.Author.Needs.{needs}
 use Rattle.column_index.proofs.find.Statement.{statement}
 use Rattle.column_index.proofs.find.Tie as tie
 use Rattle.column_index.proofs.find.Reads as reads
 use Rattle.column_index.proofs.find.Lts as lts
-use Rattle.column_index.proofs.listed.fill_all.Reads as fill-all-reads
-use Rattle.column_index.proofs.rows.count_all.Reads as count-all-reads
+use Rattle.run_search.proofs.listed.fill_all.Reads as fill-all-reads
+use Rattle.run_search.proofs.rows.count_all.Reads as count-all-reads
 
 -- src/lib.rt:103:9
 count-all-requires : tie.Need-count-all-requires

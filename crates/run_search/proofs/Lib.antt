@@ -1,0 +1,5 @@
+pub mod SearchLaws
+pub mod RowsLaws
+pub mod RunLaws
+pub mod EntryLaws
+pub mod FillLaws

@@ -1,0 +1,72 @@
+-- `run_search::listed::put_row` meets its contract. Assumes nothing.
+use Prim.Native.Nat.{ℕ, _≤_, _<_, _+_}
+use mathlib.Core.Path.{_≡_, refl, sym, ap, _∙_}
+use mathlib.Core.List.{List, [], _∷_}
+use mathlib.Core.Bool.{Bool, true, false, cond}
+use native.Mathlib.Omega.{arith}
+use lib.ListN.{length, set}
+use lib.Seq.{sets}
+use mir.Syntax.{w32}
+use mir.ValLaws.{toZ-ofZ}
+use Rattle.bins.specs.Bins.{readings}
+use Rattle.bins.specs.Masks.{matches}
+use borrow.Author.Needs.{needs}
+use Rattle.run_search.proofs.listed.put_row.Statement.{statement}
+use Rattle.run_search.proofs.listed.put_row.Tie as tie
+use Rattle.run_search.proofs.listed.put_row.Reads as reads
+use Rattle.run_search.proofs.listed.put_row.Lts as lts
+use Rattle.bins.proofs.in_range.Reads as in-range-reads
+
+-- src/listed.rt:36:8
+in-range-requires : tie.Need-in-range-requires
+in-range-requires c κs = search needs
+
+-- src/listed.rt:37:20
+-- what `in_range` says, of the range's own ends and the value
+tested : (c : tie.After-in-range) → matches readings (c .before .before .before .before .args .ask .low) (c .before .before .before .before .args .ask .high) (c .before .before .before .before .args .v) ≡ c .in-range .result
+tested c =
+    let s = c .before .before .before .before in
+    let l = toZ-ofZ w32 (s .args .ask .low) (record { sfits = c .before .before .struct-told .given .0 .1 }) in
+    let h = toZ-ofZ w32 (s .args .ask .high) (record { sfits = c .before .struct-told2 .given .1 .0 .1 }) in
+    let v = toZ-ofZ w32 (s .args .v) (s .fits .v) in
+    sym (c .in-range .ensures ∙ (λ i. matches readings (l i) (h i) (v i)))
+
+cast-rows : tie.Need-cast-rows
+cast-rows c = search needs
+
+-- src/listed.rt:37:9
+mul-rows : tie.Need-mul-rows
+mul-rows c = search needs
+
+-- src/listed.rt:37:9
+slice-write-rows : tie.Need-slice-write-rows
+slice-write-rows c = c .before .before .before .before .before .before .pre .1 (tested (c .before .before) ∙ c .before .if1 .taken)
+
+-- src/listed.rt:38:16
+add-result : tie.Need-add-result
+add-result c = search needs
+
+-- src/listed.rt:38:9
+same-length : tie.Need-same-length
+same-length c = search needs
+
+-- src/listed.rt:38:9
+returns : tie.Need-returns
+returns c = let e = tested (c .before .before) ∙ c .before .if1 .taken in (rw e refl, rw e refl)
+
+-- src/listed.rt:32:1
+returns-2 : tie.Need-returns-2
+returns-2 c = let e = tested (c .before) ∙ c .if1 .left in (rw e refl, rw e (omega arith))
+
+pub put-row-spec : {M : Type 1} → statement M
+put-row-spec =
+    tie.close
+    (tie.spec
+    in-range-requires
+    cast-rows
+    mul-rows
+    slice-write-rows
+    add-result
+    same-length
+    returns
+    returns-2)

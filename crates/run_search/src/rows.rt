@@ -1,0 +1,168 @@
+// The rows of a range, counted and then listed, entry by entry. A repeat entry that is skipped or taken whole is one step, however many lines it has.
+use bins::Fate;
+use bins::Line;
+use bins::Row;
+ghost use mathlib.Core.Path.{_≡_};
+ghost use mathlib.Core.Bool.{cond};
+ghost use Prim.Native.Nat.{ℕ, _+_, _-_, _*_, _<_, _≤_};
+ghost use lib.ListN.{length};
+ghost use lib.Seq.{sets};
+ghost use Rattle.words.specs.Lists.{from};
+ghost use Rattle.bins.specs.Bins.{readings};
+ghost use Rattle.bins.specs.Masks.{matches, fate};
+ghost use Rattle.dictionary.specs.Dictionary.{count-of, unpack};
+ghost use Rattle.run_search.specs.Search.{scan};
+ghost use Rattle.run_search.specs.Runs.{asked-of, values, through, run-at, tally, plus, entry-lines, entry-kept, Readable, Within, row-at};
+
+// What a search has counted so far: rows listed, lines skipped, lines whole, values compared.
+pub struct Tally {
+    pub rows: usize,
+    pub skipped: usize,
+    pub whole: usize,
+    pub compared: usize,
+}
+
+// A closed range, and the masks of the bins that it is searched by.
+pub struct Ask {
+    pub low: i32,
+    pub high: i32,
+    pub mask: u64,
+    pub inner: u64,
+}
+
+// 1 where v lies in the range, else 0.
+fn one_if(ask: Ask, v: i32) -> u32
+    ensures { λ r. ⌜ r ≡ cond (matches readings (ask .low) (ask .high) v) 1 0 ⌝ }
+    ensures { λ r. ⌜ r ≤ 1 ⌝ }
+{
+    if bins::in_range(ask.low, ask.high, v) {
+        1
+    } else {
+        0
+    }
+}
+
+// How many of the values lie in the range. A counter of 32 bits is twice as fast as one of 64.
+fn count_matches(part: &[i32], ask: Ask) -> u32
+    requires { ⌜ length (now part) ≤ 16777216 ⌝ }
+    ensures { λ r. ⌜ r ≡ length (scan readings (ask .low) (ask .high) 0 (now (part .entry))) ⌝ }
+{
+    let mut n: u32 = 0;
+    let mut i: usize = 0;
+    while i < part.len() {
+        n += one_if(ask, part[i]);
+        i += 1;
+    }
+    n
+}
+
+// The first row of a line, or the end of the column: the one place where a line's number becomes a row's.
+fn row_of(rows: usize, line: Line) -> Row
+    requires { ⌜ line .0 ≤ 1048576 ⌝ }
+    ensures { λ r. ⌜ r .0 ≡ row-at rows (line .0) ⌝ }
+{
+    let at = 16 * line.0;
+    if at < rows { Row(at) } else { Row(rows) }
+}
+
+// The values of n lines from `line` on. The last line of the column may be shorter.
+pub fn lines_of<'a>(column: &'a [i32], line: Line, n: usize) -> &'a [i32]
+    requires { ⌜ line .0 + n ≤ 1048576 ⌝ }
+    ensures { λ r. ⌜ now r ≡ values readings (now (column .entry)) (line .0) n ⌝ }
+{
+    let c = line.0;
+    let from = row_of(column.len(), line);
+    let to = row_of(column.len(), Line(c + n));
+    let a = from.0;
+    let e = to.0;
+    &column[a..e]
+}
+
+// n lines of one imprint, from `line` on, counted.
+fn count_run(t: Tally, column: &[i32], line: Line, n: usize, imprint: u64, ask: Ask) -> Tally
+    requires { ⌜ (Within t (line .0)) × (line .0 + n ≤ 1048576) × (length (now column) ≤ 16777216) ⌝ }
+    ensures { λ r. ⌜ r ≡ plus t (run-at readings (asked-of ask) (now (column .entry)) imprint (line .0) n) ⌝ }
+{
+    let part = lines_of(column, line, n);
+    match bins::fate_of(imprint, ask.mask, ask.inner) {
+        Fate::Skipped => Tally {
+            rows: t.rows,
+            skipped: t.skipped + n,
+            whole: t.whole,
+            compared: t.compared,
+        },
+        Fate::Whole => Tally {
+            rows: t.rows + part.len(),
+            skipped: t.skipped,
+            whole: t.whole + n,
+            compared: t.compared,
+        },
+        Fate::Compared => Tally {
+            rows: t.rows + count_matches(part, ask) as usize,
+            skipped: t.skipped,
+            whole: t.whole,
+            compared: t.compared + part.len(),
+        },
+    }
+}
+
+// Lines with these imprints, from `line` on, counted one by one.
+fn count_plain(t: Tally, column: &[i32], line: Line, imprints: &[u64], ask: Ask) -> Tally
+    requires { ⌜ (Within t (line .0)) × (line .0 + length (now imprints) ≤ 1048576) × (length (now column) ≤ 16777216) ⌝ }
+    ensures { λ r. ⌜ r ≡ plus t (through readings (asked-of ask) (now (column .entry)) (line .0) (now (imprints .entry))) ⌝ }
+{
+    let first = line.0;
+    let mut so_far = t;
+    let mut i: usize = 0;
+    while i < imprints.len() {
+        so_far = count_run(so_far, column, Line(first + i), 1, imprints[i], ask);
+        i += 1;
+    }
+    so_far
+}
+
+// The lines of an entry, from `line` on, counted. The imprints begin with the entry's own.
+fn count_entry(t: Tally, column: &[i32], line: Line, d: u32, imprints: &[u64], ask: Ask) -> Tally
+    requires { ⌜ (Within t (line .0)) × (line .0 + count-of d ≤ 1048576) × (length (now column) ≤ 16777216) × (entry-kept d ≤ length (now imprints)) ⌝ }
+    ensures { λ r. ⌜ r ≡ plus t (through readings (asked-of ask) (now (column .entry)) (line .0) (entry-lines d (now (imprints .entry)))) ⌝ }
+{
+    let n = dictionary::count_of(d) as usize;
+    if dictionary::is_repeat(d) {
+        return count_run(t, column, line, n, imprints[0], ask);
+    }
+    count_plain(t, column, line, &imprints[..n], ask)
+}
+
+// How many imprints are kept for an entry.
+pub fn kept_by(d: u32) -> usize
+    ensures { λ r. ⌜ r ≡ entry-kept d ⌝ }
+{
+    if dictionary::is_repeat(d) {
+        return 1;
+    }
+    dictionary::count_of(d) as usize
+}
+
+// All the lines of an index, counted.
+pub fn count_all(column: &[i32], imprints: &[u64], dictionary: &[u32], ask: Ask) -> Tally
+    requires { ⌜ (Readable (now dictionary) (now imprints)) × (length (unpack (now dictionary) (now imprints)) ≤ 1048576) × (length (now column) ≤ 16777216) ⌝ }
+    ensures { λ r. ⌜ r ≡ plus (tally 0 0 0 0) (through readings (asked-of ask) (now (column .entry)) 0 (unpack (now (dictionary .entry)) (now (imprints .entry)))) ⌝ }
+{
+    let mut so_far = Tally {
+        rows: 0,
+        skipped: 0,
+        whole: 0,
+        compared: 0,
+    };
+    let mut e: usize = 0;
+    let mut i: usize = 0;
+    let mut c: usize = 0;
+    while e < dictionary.len() {
+        let d = dictionary[e];
+        so_far = count_entry(so_far, column, Line(c), d, &imprints[i..], ask);
+        i += kept_by(d);
+        c += dictionary::count_of(d) as usize;
+        e += 1;
+    }
+    so_far
+}
