@@ -34,7 +34,8 @@ use Rattle.guarded_search.specs.declared.GuardAnswer.the-variants as guard
 use Rattle.guarded_search.specs.declared.Outcome.the-variants.{Denied, Found, Learnt, NotLearnt}
 use Rattle.guarded_search.specs.Searching.{says-learnt}
 use Rattle.guarded_search.proofs.TurnLaws.{Turned, same, more, waste, turned}
-use Rattle.c_api.specs.Promise.{BuildFace, PackFace, UnpackFace, unpack-needed, StepFace, step-number, step-beside, SearchFace, FreshFace, AskFace, look-word, ReadFace, GuardFace}
+use Rattle.answers.specs.Beside.{unpack-needed, step-number, step-beside, look-word}
+use Rattle.c_api.specs.Promise.{BuildFace, PackFace, UnpackFace, StepFace, SearchFace, FreshFace, AskFace, ReadFace, GuardFace}
 
 -- ---- build
 

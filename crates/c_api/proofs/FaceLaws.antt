@@ -14,7 +14,8 @@ use Rattle.range_filter.specs.Promise.{madeNumber, madeBeside, askedNumber, lea
 use Rattle.range_filter.proofs.Only.{fresh-only, fresh-refused, ask-only, learn-only, learn-refused, arrive-only, arrive-refused, depart-only, forget-only, forget-refused, read-only}
 use Rattle.guarded_search.specs.Promise.{guard-number, guard-beside}
 use Rattle.guarded_search.proofs.Only.{guards-only, guards-refused}
-use Rattle.c_api.specs.Promise.{BuildFace, PackFace, UnpackFace, unpack-needed, StepFace, SearchFace, FreshFace, AskFace, look-word, LearnFace, ArriveFace, DepartFace, ForgetFace, ReadFace, GuardFace}
+use Rattle.answers.specs.Beside.{unpack-needed, look-word}
+use Rattle.c_api.specs.Promise.{BuildFace, PackFace, UnpackFace, StepFace, SearchFace, FreshFace, AskFace, LearnFace, ArriveFace, DepartFace, ForgetFace, ReadFace, GuardFace}
 
 -- what is said of one answer by one function is one thing
 one : {A B : Type 0} (f : A → B) {r s : A} {m n : B} → r ≡ s → m ≡ f r → n ≡ f s → m ≡ n

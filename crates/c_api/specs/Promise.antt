@@ -3,26 +3,22 @@ use mathlib.Core.Path.{_≡_}
 use mathlib.Core.List.{List, [], _∷_}
 use Prim.Native.Nat.{ℕ}
 use lib.IntN.{ℤ}
-use Rattle.words.specs.Numbers.{numbered, done, no-index}
+use Rattle.words.specs.Numbers.{numbered}
 use Rattle.dictionary.specs.Position.{position, step}
-use Rattle.dictionary.specs.declared.Position.{Position}
-use Rattle.dictionary.specs.declared.Step.{Step}
-use Rattle.dictionary.specs.declared.Step.the-variants.{Line, Ended, Wrong}
 use Rattle.column_index.specs.Promise.{Builds, build-number, build-beside, Packs, pack-number, pack-beside, Unpacks, unpack-number, Searches, search-number, search-beside}
 use Rattle.column_index.specs.declared.BuildAnswer.{BuildAnswer}
 use Rattle.column_index.specs.declared.PackAnswer.{PackAnswer}
 use Rattle.column_index.specs.declared.UnpackAnswer.{UnpackAnswer}
-use Rattle.column_index.specs.declared.UnpackAnswer.the-variants as unpacking
 use Rattle.column_index.specs.declared.SearchAnswer.{SearchAnswer}
 use Rattle.range_filter.specs.Promise.{Fresh, madeNumber, madeBeside, Ask, askedNumber, Learn, learntNumber, Arrive, arrivedNumber, Depart, departedNumber, Forget, forgotNumber, Read, readingNumber, readingBeside}
 use Rattle.range_filter.specs.declared.Made.{Made}
 use Rattle.range_filter.specs.declared.Asked.{Asked}
-use Rattle.range_filter.specs.declared.Asked.the-variants as asked
 use Rattle.range_filter.specs.declared.Learnt.{Learnt}
 use Rattle.range_filter.specs.declared.Arrived.{Arrived}
 use Rattle.range_filter.specs.declared.Departed.{Departed}
 use Rattle.range_filter.specs.declared.Forgot.{Forgot}
 use Rattle.range_filter.specs.declared.Reading.{Reading}
+use Rattle.answers.specs.Beside.{unpack-needed, step-number, step-beside, look-word}
 use Rattle.guarded_search.specs.Promise.{Guards, guard-number, guard-beside}
 use Rattle.guarded_search.specs.declared.GuardAnswer.{GuardAnswer}
 
@@ -42,31 +38,14 @@ pub record PackFace (ws : List ℕ) (bs : List ℤ) (is ds : List ℕ) (n : ℕ)
   pub number : n ≡ numbered (pack-number answer)
   pub words : out′ ≡ pack-beside answer
 
--- unpack; beside the number: the length needed, which 4 alone fills
-abbrev pub unpack-needed : UnpackAnswer → ℕ
-unpack-needed (unpacking.Done n) = 0
-unpack-needed unpacking.TooLong = 0
-unpack-needed unpacking.BadBorders = 0
-unpack-needed unpacking.NoIndex = 0
-unpack-needed (unpacking.Short n) = n
-
+-- unpack; beside the number: the length needed
 pub record UnpackFace (bs : List ℤ) (is ds : List ℕ) (lines : ℕ) (ws : List ℕ) (n : ℕ) (ws′ : List ℕ) (needed′ : ℕ) : Type 0 where
   pub answer : UnpackAnswer
   pub unpacks : Unpacks bs is ds lines ws answer ws′
   pub number : n ≡ numbered (unpack-number answer)
   pub needed : needed′ ≡ unpack-needed answer
 
--- one step of a line reader; 3 is a bad position. Beside the number: ended, imprint, and the position afterwards as entry, place and number
-abbrev pub step-number : Step → ℕ
-step-number (Line i p) = numbered done
-step-number (Ended p) = numbered done
-step-number (Wrong p) = numbered no-index
-
-abbrev pub step-beside : Step → List ℕ
-step-beside (Line i p) = 0 ∷ i ∷ p .entry ∷ p .place ∷ p .number ∷ []
-step-beside (Ended p) = 1 ∷ 0 ∷ p .entry ∷ p .place ∷ p .number ∷ []
-step-beside (Wrong p) = 0 ∷ 0 ∷ 0 ∷ 0 ∷ 0 ∷ []
-
+-- one step of a line reader; beside the number: ended, imprint, and the position afterwards as entry, place and number
 pub record StepFace (ds is : List ℕ) (entry place at : ℕ) (n : ℕ) (out′ : List ℕ) : Type 0 where
   pub number : n ≡ step-number (step ds is (position entry place at))
   pub words : out′ ≡ step-beside (step ds is (position entry place at))
@@ -87,14 +66,7 @@ pub record FreshFace (levels room : ℕ) (w : List ℕ) (n : ℕ) (w′ : List �
   pub number : n ≡ madeNumber answer
   pub needed : needed′ ≡ madeBeside answer
 
--- ask; beside the number: 1 for look, 0 for denied and beside any other number
-abbrev pub look-word : Asked → ℕ
-look-word asked.NoFilter = 0
-look-word asked.NoKey = 0
-look-word asked.Order = 0
-look-word asked.Look = 1
-look-word asked.Denied = 0
-
+-- ask; beside the number: whether to look
 pub record AskFace (w : List ℕ) (lo hi : ℕ) (n look′ : ℕ) : Type 0 where
   pub answer : Asked
   pub asks : Ask w lo hi answer

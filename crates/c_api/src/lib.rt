@@ -1,6 +1,5 @@
 // The calls for C and Rust: a number comes back, what stands beside it goes into lent words, and slices are a pointer and a length.
 
-pub mod beside; // beside.rt: words beside a number
 pub mod both; // both.rt: the search with both
 pub mod filter; // filter.rt: the filter's calls
 pub mod index; // index.rt: build, pack, unpack, step and range search

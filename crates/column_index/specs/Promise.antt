@@ -1,6 +1,6 @@
 -- Document 01: what build, pack, unpack and range search answer, in the order of their checks, and what every lent word is afterwards. Assumes nothing.
 use mathlib.Core.Path.{_≡_}
-use Prim.Native.Nat.{ℕ, zero, suc}
+use Prim.Native.Nat.{ℕ}
 use mathlib.Core.List.{List, [], _∷_}
 use mathlib.Core.Bool.{Bool, cond, not}
 use lib.Dec.{ltb}
@@ -143,6 +143,10 @@ search-beside searching.NoIndex = 0 ∷ 0 ∷ 0 ∷ 0 ∷ 0 ∷ []
 search-beside searching.LowAboveHigh = 0 ∷ 0 ∷ 0 ∷ 0 ∷ 0 ∷ []
 search-beside (searching.Short n) = n ∷ 0 ∷ 0 ∷ 0 ∷ 0 ∷ []
 
+-- the number, and the words beside it
+abbrev pub search-words : SearchAnswer → List ℕ
+search-words r = numbered (search-number r) ∷ search-beside r
+
 -- the answer of a search that lists and counts a, into a space of so many words
 abbrev pub search-room : Answer → ℕ → SearchAnswer
 search-room a space = cond (ltb space (length (a .ids))) (searching.Short (length (a .ids))) (searching.Done (length (a .ids)) (a .skips) (a .wholes) (a .compares))
@@ -163,27 +167,3 @@ unfoldable pub checked-answer : List ℤ → List ℤ → List ℕ → List ℕ 
 checked-answer col bs is ds =
     cond (ltb most-rows (length col)) checking.TooLong
     (cond (not (good-borders bs)) checking.BadBorders (cond (not (is-index-for readings bs col ds is)) checking.NoIndex checking.Fine))
-
--- ---- the same search, handing back the front part of the caller's own row space
-
--- the part: the rows listed; empty beside any number but 0
-abbrev pub handed : ℕ → List ℕ → List ℕ
-handed zero ids = ids
-handed (suc n) ids = []
-
--- how many rows an answer lists
-abbrev pub listed-by : SearchAnswer → ℕ
-listed-by (searching.Done n s w c) = n
-listed-by searching.TooLong = 0
-listed-by searching.BadBorders = 0
-listed-by searching.NoIndex = 0
-listed-by searching.LowAboveHigh = 0
-listed-by (searching.Short n) = 0
-
--- the six words beside it: the number, the length needed, how many rows, lines skipped, lines whole, values compared
-abbrev pub search-words : SearchAnswer → List ℕ
-search-words r = numbered (search-number r) ∷ search-beside r
-
-pub record Fronts (col bs : List ℤ) (is ds : List ℕ) (low high : ℤ) (rows part out′ : List ℕ) : Type 0 where
-  pub part-is : part ≡ handed (numbered (search-number (search-answer col bs is ds low high (length rows)))) (search-by readings bs ds is col low high .ids)
-  pub words-are : out′ ≡ search-words (search-answer col bs is ds low high (length rows))

@@ -7,13 +7,12 @@ use run_search::rows::Tally;
 ghost use mathlib.Core.Path.{_≡_};
 ghost use Prim.Native.Nat.{_≤_};
 ghost use lib.ListN.{length};
-ghost use mathlib.Core.List.{[], _∷_};
 ghost use Rattle.words.specs.Lists.{after};
 ghost use Rattle.words.specs.Numbers.{numbered};
 ghost use Rattle.bins.specs.Bins.{readings};
 ghost use Rattle.dictionary.specs.Dictionary.{unpack};
 ghost use Rattle.run_search.specs.Runs.{asked-of, through, Readable};
-ghost use Rattle.column_index.specs.Promise.{Searches, search-room, search-number, checked-answer, search-words, listed-by, Fronts};
+ghost use Rattle.column_index.specs.Promise.{Searches, search-room, search-number, checked-answer};
 
 // What build answers: the lengths of the three parts; a column that is too long; or the first space that is too short, with the length needed.
 pub enum BuildAnswer {
@@ -148,92 +147,4 @@ pub fn search(
             find(column, imprints, dictionary, ask, rows)
         }
     }
-}
-
-// Six words beside an answer.
-fn tell(
-    out: &mut [u64],
-    number: u64,
-    needed: u64,
-    rows: u64,
-    skipped: u64,
-    whole: u64,
-    compared: u64,
-)
-    requires { ⌜ length (now out) ≡ 6 ⌝ }
-    ensures { λ _. ⌜ now (out .exit) ≡ number ∷ needed ∷ rows ∷ skipped ∷ whole ∷ compared ∷ [] ⌝ }
-{
-    out[0] = number;
-    out[1] = needed;
-    out[2] = rows;
-    out[3] = skipped;
-    out[4] = whole;
-    out[5] = compared;
-}
-
-// A search's answer in six words.
-fn told(answer: SearchAnswer, out: &mut [u64])
-    requires { ⌜ length (now out) ≡ 6 ⌝ }
-    ensures { λ _. ⌜ now (out .exit) ≡ search-words answer ⌝ }
-{
-    match answer {
-        SearchAnswer::Done {
-            rows,
-            skipped,
-            whole,
-            compared,
-        } => tell(
-            out,
-            0,
-            0,
-            rows as u64,
-            skipped as u64,
-            whole as u64,
-            compared as u64,
-        ),
-        SearchAnswer::TooLong => tell(out, 2, 0, 0, 0, 0, 0),
-        SearchAnswer::BadBorders => tell(out, 5, 0, 0, 0, 0, 0),
-        SearchAnswer::NoIndex => tell(out, 3, 0, 0, 0, 0, 0),
-        SearchAnswer::LowAboveHigh => tell(out, 1, 0, 0, 0, 0, 0),
-        SearchAnswer::Short(n) => tell(out, 4, n as u64, 0, 0, 0, 0),
-    }
-}
-
-// How many rows an answer lists.
-fn listed_by(answer: SearchAnswer) -> usize
-    ensures { λ r. ⌜ r ≡ listed-by answer ⌝ }
-{
-    match answer {
-        SearchAnswer::Done {
-            rows,
-            skipped: _,
-            whole: _,
-            compared: _,
-        } => rows,
-        SearchAnswer::TooLong => 0,
-        SearchAnswer::BadBorders => 0,
-        SearchAnswer::NoIndex => 0,
-        SearchAnswer::LowAboveHigh => 0,
-        SearchAnswer::Short(_) => 0,
-    }
-}
-
-// The same search, which hands back the front part of the caller's own row space. The six words are the number, the length needed, how many rows, lines skipped, lines whole, values compared.
-pub fn search_rows<'a>(
-    column: &[i32],
-    borders: &[i32],
-    imprints: &[u64],
-    dictionary: &[u32],
-    low: i32,
-    high: i32,
-    rows: &'a mut [u32],
-    out: &mut [u64; 6],
-) -> &'a mut [u32]
-    ensures own { λ r. ⌜ r .ptr ≡ rows .entry .ptr ⌝ }
-    ensures words { λ r. ⌜ Fronts (now (column .entry)) (now (borders .entry)) (now (imprints .entry)) (now (dictionary .entry)) low high (now (rows .entry)) (now r) (now (out .exit)) ⌝ }
-{
-    let answer = search(column, borders, imprints, dictionary, low, high, &mut *rows);
-    told(answer, out);
-    let n = listed_by(answer);
-    &mut rows[..n]
 }

@@ -1,19 +1,14 @@
 -- The figures beside the rows are the six words that the range search promises. Assumes nothing.
 use Prim.Native.Nat.{ℕ}
 use mathlib.Core.Path.{_≡_, refl}
-use mathlib.Core.List.{List, [], _∷_}
+use mathlib.Core.List.{List}
 use lib.IntN.{ℤ}
 use Rattle.column_index.specs.Promise.{search-answer, search-words}
 use Rattle.column_index.specs.declared.SearchAnswer.{SearchAnswer}
 use Rattle.column_index.specs.declared.SearchAnswer.the-variants as searching
-use Rattle.found_rows.specs.Whole.{figures-of, found}
-use Rattle.found_rows.specs.declared.Figures.{Figures}
+use Rattle.found_rows.specs.Whole.{figures-of, in-order, found}
 
--- the figures in their order
-abbrev pub in-order : Figures → List ℕ
-in-order f = f .number ∷ f .needed ∷ f .listed ∷ f .skipped ∷ f .whole ∷ f .compared ∷ []
-
-answers-in-order : (a : SearchAnswer) → in-order (figures-of a) ≡ search-words a
+pub answers-in-order : (a : SearchAnswer) → in-order (figures-of a) ≡ search-words a
 answers-in-order (searching.Done n s w c) = refl
 answers-in-order searching.TooLong = refl
 answers-in-order searching.BadBorders = refl

@@ -1,3 +1,4 @@
 pub mod Again
 pub mod FigureLaws
 pub mod FoundLaws
+pub mod FrontLaws

@@ -1,6 +1,6 @@
 -- Document 01, the range search: its rows and its numbers in one value. Assumes nothing.
 use Prim.Native.Nat.{ℕ}
-use mathlib.Core.List.{List}
+use mathlib.Core.List.{List, [], _∷_}
 use lib.IntN.{ℤ}
 use lib.ListN.{length}
 use denote.Ref.{RefT, now, at-last}
@@ -17,6 +17,10 @@ use Rattle.found_rows.specs.declared.FoundRows.{FoundRows}
 -- an answer's figures: the number, the length needed, how many rows, lines skipped, lines whole, values compared
 abbrev pub figures : ℕ → ℕ → ℕ → ℕ → ℕ → ℕ → Figures
 figures a n l s w c = record { number = a; needed = n; listed = l; skipped = s; whole = w; compared = c }
+
+-- the figures in their order
+abbrev pub in-order : Figures → List ℕ
+in-order f = f .number ∷ f .needed ∷ f .listed ∷ f .skipped ∷ f .whole ∷ f .compared ∷ []
 
 abbrev pub figures-of : SearchAnswer → Figures
 figures-of (searching.Done n s w c) = figures 0 0 n s w c

@@ -1,13 +1,14 @@
-// The range search whose answer holds the caller's own row space and the figures in one value.
+// The range search in the forms that hand back the caller's own row space: all of it beside the figures, or its front part.
 
 use column_index::SearchAnswer;
 ghost use mathlib.Core.Path.{_≡_};
 ghost use lib.ListN.{length};
-ghost use Rattle.found_rows.specs.Whole.{figures, figures-of, found, rows-after, found-rows};
+ghost use Rattle.found_rows.specs.Whole.{figures, figures-of, in-order, found, rows-after, found-rows};
+ghost use Rattle.found_rows.specs.Front.{Fronts};
 
 // The number, the length needed, how many rows, lines skipped, lines whole, values compared.
 pub struct Figures {
-    pub number: u64,
+    pub number: u32,
     pub needed: usize,
     pub listed: usize,
     pub skipped: usize,
@@ -21,7 +22,7 @@ pub struct FoundRows<'a> {
 }
 
 // A refusal, and the length needed beside it.
-fn refused(number: u64, needed: usize) -> Figures
+fn refused(number: u32, needed: usize) -> Figures
     ensures { λ r. ⌜ r ≡ figures number needed 0 0 0 0 ⌝ }
 {
     Figures {
@@ -35,7 +36,7 @@ fn refused(number: u64, needed: usize) -> Figures
 }
 
 // An answer's figures.
-fn figures_of(answer: SearchAnswer) -> Figures
+pub fn figures_of(answer: SearchAnswer) -> Figures
     ensures { λ r. ⌜ r ≡ figures-of answer ⌝ }
 {
     match answer {
@@ -93,4 +94,37 @@ pub fn find_rows<'a>(
         rows: rows,
         found: found,
     }
+}
+
+// Six words beside a search.
+fn tell(out: &mut [u64], f: Figures)
+    requires { ⌜ length (now out) ≡ 6 ⌝ }
+    ensures { λ _. ⌜ now (out .exit) ≡ in-order f ⌝ }
+{
+    out[0] = f.number as u64;
+    out[1] = f.needed as u64;
+    out[2] = f.listed as u64;
+    out[3] = f.skipped as u64;
+    out[4] = f.whole as u64;
+    out[5] = f.compared as u64;
+}
+
+// The search that hands back the front part of the caller's own row space. The six words are the number, the length needed, how many rows, lines skipped, lines whole, values compared.
+pub fn search_rows<'a>(
+    column: &[i32],
+    borders: &[i32],
+    imprints: &[u64],
+    dictionary: &[u32],
+    low: i32,
+    high: i32,
+    rows: &'a mut [u32],
+    out: &mut [u64; 6],
+) -> &'a mut [u32]
+    ensures own { λ r. ⌜ r .ptr ≡ rows .entry .ptr ⌝ }
+    ensures words { λ r. ⌜ Fronts (now (column .entry)) (now (borders .entry)) (now (imprints .entry)) (now (dictionary .entry)) low high (now (rows .entry)) (now r) (now (out .exit)) ⌝ }
+{
+    let found = find_figures(column, borders, imprints, dictionary, low, high, &mut *rows);
+    tell(out, found);
+    let n = found.listed;
+    &mut rows[..n]
 }

@@ -5,7 +5,7 @@ use mathlib.Core.List.{List, [], _∷_}
 use Prim.Native.Nat.{ℕ}
 use lib.Dec.{ltb}
 use lib.IntN.{ℤ}
-use lib.ListN.{length, take}
+use lib.ListN.{length}
 use Rattle.words.specs.Lists.{after}
 use Rattle.words.specs.Numbers.{numbered, done, low-above-high, column-too-long, no-index, space-too-short, bad-borders, no-key, no-filter}
 use Rattle.bins.specs.Bins.{readings}
@@ -48,6 +48,10 @@ guard-beside guard.BadBorders = 0 ∷ 0 ∷ 0 ∷ 0 ∷ 0 ∷ 0 ∷ []
 guard-beside guard.NoIndex = 0 ∷ 0 ∷ 0 ∷ 0 ∷ 0 ∷ 0 ∷ []
 guard-beside (guard.Short n) = 0 ∷ n ∷ 0 ∷ 0 ∷ 0 ∷ 0 ∷ []
 
+-- the number, and the words beside it
+abbrev pub guard-words : GuardAnswer → List ℕ
+guard-words r = guard-number r ∷ guard-beside r
+
 -- what a search answers into a row space of so many words; a search that lists nothing, as a denied one, is never short of room
 abbrev pub guard-room : Outcome → Answer → ℕ → GuardAnswer
 guard-room o a space = cond (ltb space (length (a .ids))) (guard.Short (length (a .ids))) (guard.Done o (length (a .ids)) (a .skips) (a .wholes) (a .compares))
@@ -71,28 +75,3 @@ pub record Guards (w : List ℕ) (col bs : List ℤ) (is ds : List ℕ) (lo hi :
   pub kept : Kept w guard.NoFilter guard-number (guard-answer col bs is ds lo hi (length rows)) (λ m. guarded readings m bs ds is col lo hi .memory) r w′
   pub meant-rows : (m : Memory) → Filter w m → rows′ ≡ after (guard-number r) (guarded readings m bs ds is col lo hi .answer .ids) rows
   pub not-meant-rows : ((m : Memory) → Filter w m → ⊥) → rows′ ≡ rows
-
--- ---- the same search, handing back the front part of the caller's own row space
-
--- how many rows an answer lists
-abbrev pub guard-listed : GuardAnswer → ℕ
-guard-listed (guard.Done o n s w c) = n
-guard-listed guard.NoFilter = 0
-guard-listed guard.NoKey = 0
-guard-listed guard.LowAboveHigh = 0
-guard-listed guard.TooLong = 0
-guard-listed guard.BadBorders = 0
-guard-listed guard.NoIndex = 0
-guard-listed (guard.Short n) = 0
-
--- the seven words beside it: the number, then what became of it, the length needed, how many rows, lines skipped, lines whole, values compared
-abbrev pub guard-words : GuardAnswer → List ℕ
-guard-words r = guard-number r ∷ guard-beside r
-
--- What the search answers and leaves, by its own promise: the part handed back is the front of the row space as it leaves it, and the seven words tell its answer.
-pub record Hands (w : List ℕ) (col bs : List ℤ) (is ds : List ℕ) (lo hi : ℕ) (rows w′ part out′ : List ℕ) : Type 0 where
-  pub answer : GuardAnswer
-  pub rows′ : List ℕ
-  pub guards : Guards w col bs is ds lo hi rows answer w′ rows′
-  pub part-is : part ≡ take (guard-listed answer) rows′
-  pub words-are : out′ ≡ guard-words answer

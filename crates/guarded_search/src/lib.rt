@@ -9,9 +9,8 @@ ghost use mathlib.Core.Path.{_≡_};
 ghost use Prim.Native.Nat.{_^_, _≤_, _<_, min, max};
 ghost use lib.IntN.{pos};
 ghost use lib.ListN.{length};
-ghost use mathlib.Core.List.{[], _∷_};
 ghost use Rattle.column_index.specs.Promise.{checked-answer};
-ghost use Rattle.guarded_search.specs.Promise.{of-index, Guards, outcome-number, guard-words, guard-listed, Hands};
+ghost use Rattle.guarded_search.specs.Promise.{of-index, Guards};
 ghost use Rattle.guarded_search.specs.Steps.{narrow-key, narrow, narrow-all, widest, taught-outcome, Looks, Missed, Sought};
 ghost use Rattle.guarded_search.specs.declared.Outcome.the-variants.{Denied};
 ghost use Rattle.guarded_search.specs.declared.GuardAnswer.the-variants.{Done};
@@ -257,123 +256,4 @@ pub fn guarded_search(
             rows,
         ),
     }
-}
-
-// Seven words beside an answer.
-fn tell(
-    out: &mut [u64],
-    number: u64,
-    outcome: u64,
-    needed: u64,
-    rows: u64,
-    skipped: u64,
-    whole: u64,
-    compared: u64,
-)
-    requires { ⌜ length (now out) ≡ 7 ⌝ }
-    ensures { λ _. ⌜ now (out .exit) ≡ number ∷ outcome ∷ needed ∷ rows ∷ skipped ∷ whole ∷ compared ∷ [] ⌝ }
-{
-    out[0] = number;
-    out[1] = outcome;
-    out[2] = needed;
-    out[3] = rows;
-    out[4] = skipped;
-    out[5] = whole;
-    out[6] = compared;
-}
-
-// What became of a search, as a number.
-fn outcome_word(outcome: Outcome) -> u64
-    ensures { λ r. ⌜ r ≡ outcome-number outcome ⌝ }
-{
-    match outcome {
-        Outcome::Denied => 0,
-        Outcome::Found => 1,
-        Outcome::Learnt => 2,
-        Outcome::NotLearnt => 3,
-    }
-}
-
-// An answer in seven words.
-fn told(answer: GuardAnswer, out: &mut [u64])
-    requires { ⌜ length (now out) ≡ 7 ⌝ }
-    ensures { λ _. ⌜ now (out .exit) ≡ guard-words answer ⌝ }
-{
-    match answer {
-        GuardAnswer::Done {
-            outcome,
-            rows,
-            skipped,
-            whole,
-            compared,
-        } => tell(
-            out,
-            0,
-            outcome_word(outcome),
-            0,
-            rows as u64,
-            skipped as u64,
-            whole as u64,
-            compared as u64,
-        ),
-        GuardAnswer::NoFilter => tell(out, 8, 0, 0, 0, 0, 0, 0),
-        GuardAnswer::NoKey => tell(out, 7, 0, 0, 0, 0, 0, 0),
-        GuardAnswer::LowAboveHigh => tell(out, 1, 0, 0, 0, 0, 0, 0),
-        GuardAnswer::TooLong => tell(out, 2, 0, 0, 0, 0, 0, 0),
-        GuardAnswer::BadBorders => tell(out, 5, 0, 0, 0, 0, 0, 0),
-        GuardAnswer::NoIndex => tell(out, 3, 0, 0, 0, 0, 0, 0),
-        GuardAnswer::Short(n) => tell(out, 4, 0, n as u64, 0, 0, 0, 0),
-    }
-}
-
-// How many rows an answer lists.
-fn listed_by(answer: GuardAnswer) -> usize
-    ensures { λ r. ⌜ r ≡ guard-listed answer ⌝ }
-{
-    match answer {
-        GuardAnswer::Done {
-            outcome: _,
-            rows,
-            skipped: _,
-            whole: _,
-            compared: _,
-        } => rows,
-        GuardAnswer::NoFilter => 0,
-        GuardAnswer::NoKey => 0,
-        GuardAnswer::LowAboveHigh => 0,
-        GuardAnswer::TooLong => 0,
-        GuardAnswer::BadBorders => 0,
-        GuardAnswer::NoIndex => 0,
-        GuardAnswer::Short(_) => 0,
-    }
-}
-
-// The same search, which hands back the front part of the caller's own row space. The seven words are the number, what became of it (0 denied, 1 found, 2 learnt, 3 not learnt), the length needed, how many rows, lines skipped, lines whole, values compared.
-pub fn guarded_rows<'a>(
-    words: &mut [u32],
-    column: &[i32],
-    borders: &[i32],
-    imprints: &[u64],
-    dictionary: &[u32],
-    low: Key,
-    high: Key,
-    rows: &'a mut [u32],
-    out: &mut [u64; 7],
-) -> &'a mut [u32]
-    ensures own { λ r. ⌜ r .ptr ≡ rows .entry .ptr ⌝ }
-    ensures words { λ r. ⌜ Hands (now (words .entry)) (now (column .entry)) (now (borders .entry)) (now (imprints .entry)) (now (dictionary .entry)) (low .0) (high .0) (now (rows .entry)) (now (words .exit)) (now r) (now (out .exit)) ⌝ }
-{
-    let answer = guarded_search(
-        words,
-        column,
-        borders,
-        imprints,
-        dictionary,
-        low,
-        high,
-        &mut *rows,
-    );
-    told(answer, out);
-    let n = listed_by(answer);
-    &mut rows[..n]
 }

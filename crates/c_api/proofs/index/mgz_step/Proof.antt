@@ -1,13 +1,13 @@
 -- `c_api::index::mgz_step` meets its contract, by that of the step. Assumes nothing.
 use mathlib.Core.Path.{ap, _∙_}
-use Rattle.c_api.specs.Promise.{step-number, step-beside}
+use Rattle.answers.specs.Beside.{step-number, step-beside}
 use borrow.Author.Needs.{needs}
 use Rattle.c_api.proofs.index.mgz_step.Statement.{statement}
 use Rattle.c_api.proofs.index.mgz_step.Tie as tie
 use Rattle.c_api.proofs.index.mgz_step.Reads as reads
 use Rattle.c_api.proofs.index.mgz_step.Lts as lts
-use Rattle.c_api.proofs.index.step_number.Reads as step-number-reads
-use Rattle.c_api.proofs.index.step_words.Reads as step-words-reads
+use Rattle.answers.proofs.index.step_number.Reads as step-number-reads
+use Rattle.answers.proofs.index.step_words.Reads as step-words-reads
 use Rattle.dictionary.proofs.Position.step.Reads as step-reads
 
 -- src/index.rt:213:9

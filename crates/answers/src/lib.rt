@@ -1,0 +1,5 @@
+// The number of an answer, and the words beside it: what the calls for C and Rust hand over in place of an enum.
+
+pub mod beside; // beside.rt: words beside a number
+pub mod index; // index.rt: build, pack, unpack and step
+pub mod filter; // filter.rt: the filter's calls
