@@ -1,4 +1,3 @@
-pub mod InputLaws
 pub mod PutsLaws
 pub mod DecimalLaws
 pub mod LengthLaws

@@ -10,9 +10,9 @@ use borrow.Author.Tests.{lt-ltb, le-ltb}
 use Rattle.words.specs.Lists.{filled}
 use Rattle.words.proofs.ListLaws.{sets-filled}
 use Rattle.range_text.specs.Puts.{Puts}
-use Rattle.range_text.specs.Input.{readable, low-of, high-of, column-of}
+use Rattle.range_input.specs.Input.{readable, low-of, high-of, column-of}
 use Rattle.range_text.specs.Text.{text-of, range-text, refused-line, Writes, most-bytes}
-use Rattle.range_text.proofs.InputLaws.{readable-few, column-length}
+use Rattle.range_input.proofs.InputLaws.{readable-few, column-length}
 use Rattle.range_text.proofs.LengthLaws.{refused-short}
 use Rattle.range_text.proofs.AnswerLaws.{text-short}
 

@@ -12,7 +12,7 @@ use Rattle.words.specs.Numbers.{Number, numbered, unreadable, low-above-high}
 use Rattle.bins.specs.Bins.{readings, borders}
 use Rattle.column_index.specs.Index.{built, line-count}
 use Rattle.run_search.specs.Search.{Answer, search-by}
-use Rattle.range_text.specs.Input.{readable, low-of, high-of, column-of}
+use Rattle.range_input.specs.Input.{readable, low-of, high-of, column-of}
 
 -- ---- numbers in decimal
 

@@ -1,10 +1,10 @@
 // The text of an input: decoded, its column's index built, the range searched, the answer written.
-use crate::Input;
-use crate::decoding::decode;
 use crate::writing::put_found;
 use crate::writing::put_refused;
 use column_index::BuildAnswer;
 use column_index::SearchAnswer;
+use range_input::Input;
+use range_input::decode;
 ghost use mathlib.Core.Path.{_≡_};
 ghost use Prim.Native.Nat.{_≤_};
 ghost use lib.ListN.{length};

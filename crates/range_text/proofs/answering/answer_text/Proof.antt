@@ -11,18 +11,18 @@ use borrow.Author.Needs.{needs}
 use Rattle.words.specs.Numbers.{numbered}
 use lib.IntN.{ℤ}
 use mir.Val.{toZ, ofZ}
-use Rattle.range_text.specs.Input.{column-of, low-of, high-of}
+use Rattle.range_input.specs.Input.{column-of, low-of, high-of}
 use Rattle.range_text.specs.Text.{range-text, text-of}
 use Rattle.range_text.proofs.PutsLaws.{puts-as}
 use Rattle.range_text.proofs.LengthLaws.{refused-short}
-use Rattle.range_text.proofs.InputLaws.{was-unread, was-read, few-read, column-read, value-fits}
+use Rattle.range_input.proofs.InputLaws.{was-unread, was-read, few-read, column-read, value-fits}
 use Rattle.range_text.proofs.WritesLaws.{unread-text, read-text, writes-nothing, writes-text}
 use Rattle.range_text.proofs.answering.answer_text.Statement.{statement}
 use Rattle.range_text.proofs.answering.answer_text.Tie as tie
 use Rattle.range_text.proofs.answering.answer_text.Reads as reads
 use Rattle.range_text.proofs.answering.answer_text.Lts as lts
 use Rattle.range_text.proofs.answering.column_text.Reads as column-text-reads
-use Rattle.range_text.proofs.decoding.decode.Reads as decode-reads
+use Rattle.range_input.proofs.decode.Reads as decode-reads
 use Rattle.range_text.proofs.writing.put_refused.Reads as put-refused-reads
 
 -- src/answering.rt:104:9

@@ -15,9 +15,9 @@ use mir.ValLaws.{toZ-pos, toZ-neg, toZ-fits}
 use borrow.Author.Tests.{lt-ltb, le-ltb, le-leb, lt-leb, eq-eqb, ne-eqb, leb-true, ltb-true, ltb-false}
 use Rattle.words.specs.Lists.{from, filled}
 use Rattle.words.proofs.ListLaws.{length-from, sets-filled, take-filled}
-use Rattle.range_text.specs.Input.{signed, bits-at, value-at, rows-of, column-of, readable, input-of, column-after, low-of, high-of, Decodes}
-use Rattle.range_text.specs.declared.Input.{Input}
-use Rattle.range_text.specs.declared.Input.the-variants.{Unreadable, Range}
+use Rattle.range_input.specs.Input.{signed, bits-at, value-at, rows-of, column-of, readable, input-of, column-after, low-of, high-of, Decodes}
+use Rattle.range_input.specs.declared.Input.{Input}
+use Rattle.range_input.specs.declared.Input.the-variants.{Unreadable, Range}
 
 -- ---- signed numbers
 

@@ -1,4 +1,4 @@
--- `range_text::decoding::fill` meets its contract: the stores still to come fix every word. Assumes nothing.
+-- `range_input::fill` meets its contract: the stores still to come fix every word. Assumes nothing.
 use Prim.Native.Nat.{_≤_, _<_, _+_, _-_}
 use mathlib.Core.Path.{_≡_, refl, _∙_}
 use mathlib.Core.List.{map}
@@ -9,13 +9,13 @@ use mir.Syntax.{w32}
 use mir.ValLaws.{toZ-ofZ}
 use borrow.Author.Needs.{needs}
 use Rattle.words.specs.Lists.{from}
-use Rattle.range_text.specs.Input.{value-at, column-of}
-use Rattle.range_text.proofs.InputLaws.{fill-starts, fill-next, fill-ends}
-use Rattle.range_text.proofs.decoding.fill.Statement.{statement}
-use Rattle.range_text.proofs.decoding.fill.Tie as tie
-use Rattle.range_text.proofs.decoding.fill.Reads as reads
-use Rattle.range_text.proofs.decoding.fill.Lts as lts
-use Rattle.range_text.proofs.decoding.value_at.Reads as value-at-reads
+use Rattle.range_input.specs.Input.{value-at, column-of}
+use Rattle.range_input.proofs.InputLaws.{fill-starts, fill-next, fill-ends}
+use Rattle.range_input.proofs.fill.Statement.{statement}
+use Rattle.range_input.proofs.fill.Tie as tie
+use Rattle.range_input.proofs.fill.Reads as reads
+use Rattle.range_input.proofs.fill.Lts as lts
+use Rattle.range_input.proofs.value_at.Reads as value-at-reads
 
 abbrev Inv-loop : tie.InvT-loop
 Inv-loop input rows column₀ i₀ column i = (i ≤ rows) × (length column ≡ length column₀) × (sets column i (map (value-at input) (from (i + 2) (rows - i))) ≡ sets column₀ 0 (column-of input))
@@ -23,35 +23,35 @@ Inv-loop input rows column₀ i₀ column i = (i ≤ rows) × (length column ≡
 abbrev μ-loop : tie.MeasureT-loop
 μ-loop input rows column₀ i₀ column i = rows - i
 
--- src/decoding.rt:52:5
+-- src/lib.rt:52:5
 loop-holds : tie.Need-loop-holds Inv-loop μ-loop
 loop-holds c = let a = c .before .args in (omega arith, refl, fill-starts (a .input .now) (a .column .now) (a .rows) (c .before .pre .2))
 
--- src/decoding.rt:53:37
+-- src/lib.rt:53:37
 add-value-at : tie.Need-add-value-at Inv-loop μ-loop
 add-value-at c = omega arith
 
--- src/decoding.rt:53:21
+-- src/lib.rt:53:21
 value-at-requires : tie.Need-value-at-requires Inv-loop μ-loop
 value-at-requires c κs = omega arith
 
--- src/decoding.rt:53:9
+-- src/lib.rt:53:9
 mul-t8 : tie.Need-mul-t8 Inv-loop μ-loop
 mul-t8 c = omega arith
 
--- src/decoding.rt:53:9
+-- src/lib.rt:53:9
 slice-set-from-column : tie.Need-slice-set-from-column Inv-loop μ-loop
 slice-set-from-column c = omega arith
 
--- src/decoding.rt:54:9
+-- src/lib.rt:54:9
 add-i : tie.Need-add-i Inv-loop μ-loop
 add-i c = omega arith
 
--- src/decoding.rt:52:5
+-- src/lib.rt:52:5
 loop-less : tie.Need-loop-less Inv-loop μ-loop
 loop-less c = omega arith
 
--- src/decoding.rt:52:5
+-- src/lib.rt:52:5
 loop-again : tie.Need-loop-again Inv-loop μ-loop
 loop-again c =
     let a = c .before .before .before .before .args in
@@ -59,11 +59,11 @@ loop-again c =
     let e = toZ-ofZ w32 (c .value-at .result) (record { sfits = c .value-at .ok }) ∙ c .value-at .ensures in
     rw e (omega arith, length-set (l .column) (l .i) (value-at (a .input .now) (l .i + 2)) ∙ l .inv .1, fill-next (value-at (a .input .now)) (l .column) (sets (a .column .now) 0 (column-of (a .input .now))) (l .i) (a .rows) (c .before .loop-test .taken) (l .inv .2))
 
--- src/decoding.rt:47:1
+-- src/lib.rt:47:1
 same-length : tie.Need-same-length Inv-loop μ-loop
 same-length c = search needs
 
--- src/decoding.rt:47:1
+-- src/lib.rt:47:1
 returns : tie.Need-returns Inv-loop μ-loop
 returns c =
     let a = c .before .before .before .args in

@@ -7,8 +7,8 @@ use lib.Dec.{eqb, leb, ltb}
 use lib.IntN.{ℤ, pos, negsuc}
 use lib.ListN.{length, getD}
 use Rattle.words.specs.Lists.{from, filled}
-use Rattle.range_text.specs.declared.Input.{Input}
-use Rattle.range_text.specs.declared.Input.the-variants.{Unreadable, Range}
+use Rattle.range_input.specs.declared.Input.{Input}
+use Rattle.range_input.specs.declared.Input.the-variants.{Unreadable, Range}
 
 -- the signed number of 32 bits: those from 2^31 on stand for -2^31 to -1
 unfoldable pub signed : ℕ → ℤ

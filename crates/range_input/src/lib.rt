@@ -1,10 +1,15 @@
-// From the program's bytes to a range and a column.
-use crate::Input;
+// The program's input: from bytes to a range and a column.
 ghost use mathlib.Core.Path.{_≡_};
 ghost use Prim.Native.Nat.{_+_, _*_, _<_, _≤_};
 ghost use lib.ListN.{length};
 ghost use lib.Seq.{sets};
-ghost use Rattle.range_text.specs.Input.{signed as number, bits-at, value-at as value, column-of, rows-of, Decodes};
+ghost use Rattle.range_input.specs.Input.{signed as number, bits-at, value-at as value, column-of, rows-of, Decodes};
+
+// What an input is.
+pub enum Input {
+    Unreadable,
+    Range { low: i32, high: i32, rows: usize },
+}
 
 // A signed number of its 32 bits.
 fn signed(x: u32) -> i32

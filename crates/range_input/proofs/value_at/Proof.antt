@@ -1,0 +1,27 @@
+-- `range_input::value_at` meets its contract. Assumes nothing.
+use mathlib.Core.Path.{_∙_, ap}
+use mir.Syntax.{w32}
+use mir.ValLaws.{toZ-ofZ}
+use Rattle.range_input.specs.Input.{signed}
+use borrow.Author.Needs.{needs}
+use Rattle.range_input.proofs.value_at.Statement.{statement}
+use Rattle.range_input.proofs.value_at.Tie as tie
+use Rattle.range_input.proofs.value_at.Reads as reads
+use Rattle.range_input.proofs.value_at.Lts as lts
+use Rattle.range_input.proofs.bits_at.Reads as bits-at-reads
+use Rattle.range_input.proofs.signed.Reads as signed-reads
+
+-- src/lib.rt:43:12
+bits-at-requires : tie.Need-bits-at-requires
+bits-at-requires c κs = search needs
+
+-- src/lib.rt:43:5
+signed-requires : tie.Need-signed-requires
+signed-requires c κs = search needs
+
+-- src/lib.rt:39:1
+returns : tie.Need-returns
+returns c = toZ-ofZ w32 (c .signed .result) (record { sfits = c .signed .ok }) ∙ c .signed .ensures ∙ ap signed (c .before .bits-at .ensures)
+
+pub value-at-spec : {M : Type 1} → statement M
+value-at-spec = tie.close (tie.spec bits-at-requires signed-requires returns)
