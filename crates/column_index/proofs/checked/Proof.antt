@@ -17,15 +17,12 @@ use Rattle.column_index.proofs.checked.Lts as lts
 use Rattle.bins.proofs.good_borders.Reads as good-borders-reads
 use Rattle.dictionary.proofs.accepting.accepted.Reads as accepted-reads
 
--- src/lib.rt:86:9
 returns : tie.Need-returns
 returns c = let a = c .before .before .before .args in checked-long (a .column .now) (a .borders .now) (a .imprints .now) (a .dictionary .now) (c .if1 .taken)
 
--- src/lib.rt:88:8
 good-borders-requires : tie.Need-good-borders-requires
 good-borders-requires c κs = search needs
 
--- src/lib.rt:89:17
 few : (c : tie.Then2) → length (c .before .before .before .before .before .args .borders .now) ≤ 63
 few c = good-few (c .before .before .before .before .before .args .borders .now) (sym (c .before .good-borders .ensures) ∙ c .if2 .taken)
 
@@ -38,31 +35,25 @@ tested c =
 cast-n : tie.Need-cast-n
 cast-n c = omega (arith, few c)
 
--- src/lib.rt:89:17
 add-n : tie.Need-add-n
 add-n c = omega (arith, few c)
 
--- src/lib.rt:90:69
 line-count-requires : tie.Need-line-count-requires
 line-count-requires c κs = search needs
 
--- src/lib.rt:90:12
 accepted-requires : tie.Need-accepted-requires
 accepted-requires c κs = omega (arith, few (c .before))
 
--- src/lib.rt:91:13
 returns-2 : tie.Need-returns-2
 returns-2 c =
     let a = c .before .before .before .before .before .before .before .before .args in
     checked-rest (a .column .now) (a .borders .now) (a .imprints .now) (a .dictionary .now) (c .before .before .before .before .before .if1 .left) true true (sym (c .before .before .before .before .good-borders .ensures) ∙ c .before .before .before .if2 .taken) (tested (c .before) ∙ c .if3 .taken)
 
--- src/lib.rt:93:9
 returns-3 : tie.Need-returns-3
 returns-3 c =
     let a = c .before .before .before .before .before .before .before .before .args in
     checked-rest (a .column .now) (a .borders .now) (a .imprints .now) (a .dictionary .now) (c .before .before .before .before .before .if1 .left) true false (sym (c .before .before .before .before .good-borders .ensures) ∙ c .before .before .before .if2 .taken) (tested (c .before) ∙ c .if3 .left)
 
--- src/lib.rt:82:1
 returns-4 : tie.Need-returns-4
 returns-4 c = let a = c .before .before .before .before .before .args in checked-borders (a .column .now) (a .borders .now) (a .imprints .now) (a .dictionary .now) (c .before .before .if1 .left) (sym (c .before .good-borders .ensures) ∙ c .if2 .left)
 

@@ -22,11 +22,9 @@ use Rattle.column_index.proofs.find.Lts as lts
 use Rattle.run_search.proofs.listed.fill_all.Reads as fill-all-reads
 use Rattle.run_search.proofs.rows.count_all.Reads as count-all-reads
 
--- src/lib.rt:103:9
 count-all-requires : tie.Need-count-all-requires
 count-all-requires c κs = search needs
 
--- src/lib.rt:106:9
 -- the answer, and what was counted of it
 abbrev all : tie.Start → Answer
 all s = through readings (asked-of (s .args .ask)) (s .args .column .now) 0 (unpack (s .args .dictionary .now) (s .args .imprints .now))
@@ -43,15 +41,12 @@ returns c =
     let n = rows-counted (c .before) in
     (ap searching.Short n ∙ room-short a (length (c .before .before .before .before .before .args .rows .now)) (omega (arith, n, c .if1 .taken)), refl)
 
--- src/lib.rt:108:5
 fill-all-requires : tie.Need-fill-all-requires
 fill-all-requires c κs = let s = c .before .before .before .before .before .before in (s .pre .0, s .pre .1, s .pre .2, omega (arith, rows-counted (c .before .before), c .before .if1 .left))
 
--- src/lib.rt:99:1
 same-length : tie.Need-same-length
 same-length c = search needs
 
--- src/lib.rt:99:1
 returns-2 : tie.Need-returns-2
 returns-2 c =
     let s = c .before .before .before .before .before .before .before .before .before in

@@ -27,11 +27,9 @@ use Rattle.bins.proofs.range_mask.Reads as range-mask-reads
 use Rattle.column_index.proofs.checked.Reads as checked-reads
 use Rattle.column_index.proofs.find.Reads as find-reads
 
--- src/lib.rt:121:11
 checked-requires : tie.Need-checked-requires
 checked-requires c κs = search needs
 
--- src/lib.rt:122:32
 -- the check passed
 fine : (c : tie.After-enum-told4) → checked-answer (c .before .before .before .before .before .before .args .column .now) (c .before .before .before .before .before .before .args .borders .now) (c .before .before .before .before .before .before .args .imprints .now) (c .before .before .before .before .before .before .args .dictionary .now) ≡ checking.Fine
 fine c = sym (c .before .before .checked .ensures) ∙ c .enum-told4 .given .1
@@ -46,51 +44,39 @@ test c = let s = c .before .before .before .before .before .before in ap₂ ltZ 
 enum-told : tie.Need-enum-told
 enum-told c = search needs
 
--- src/lib.rt:123:35
 enum-told-2 : tie.Need-enum-told-2
 enum-told-2 c = search needs
 
--- src/lib.rt:124:32
 enum-told-3 : tie.Need-enum-told-3
 enum-told-3 c = search needs
 
--- src/lib.rt:126:16
 enum-told-4 : tie.Need-enum-told-4
 enum-told-4 c = search needs
 
--- src/lib.rt:127:17
 returns : tie.Need-returns
 returns c = let a = c .before .before .before .before .before .before .before .args in record { answers = answered-order (a .column .now) (a .borders .now) (a .imprints .now) (a .dictionary .now) (a .low) (a .high) (a .rows .now) (fine (c .before)) (sym (test (c .before)) ∙ c .if1 .taken); rows-after = refl }
 
--- src/lib.rt:129:17
 range-mask-requires : tie.Need-range-mask-requires
 range-mask-requires c κs = few (c .before)
 
--- src/lib.rt:130:17
 inner-mask-requires : tie.Need-inner-mask-requires
 inner-mask-requires c κs = few (c .before .before)
 
--- src/lib.rt:137:13
 find-requires : tie.Need-find-requires
 find-requires c κs = let a = c .before .before .before .before .before .before .before .before .before .before .args in passed-lines (a .column .now) (a .borders .now) (a .imprints .now) (a .dictionary .now) (fine (c .before .before .before .before))
 
--- src/lib.rt:118:1
 returns-2 : tie.Need-returns-2
 returns-2 c = let a = c .before .before .before .before .before .before .args in record { answers = answered (a .column .now) (a .borders .now) (a .imprints .now) (a .dictionary .now) (a .low) (a .high) (a .rows .now) checking.TooLong (sym (c .before .before .checked .ensures) ∙ c .enum-told .given .1) searching.TooLong refl; rows-after = refl }
 
--- src/lib.rt:118:1
 returns-3 : tie.Need-returns-3
 returns-3 c = let a = c .before .before .before .before .before .before .args in record { answers = answered (a .column .now) (a .borders .now) (a .imprints .now) (a .dictionary .now) (a .low) (a .high) (a .rows .now) checking.BadBorders (sym (c .before .before .checked .ensures) ∙ c .enum-told2 .given .1) searching.BadBorders refl; rows-after = refl }
 
--- src/lib.rt:118:1
 returns-4 : tie.Need-returns-4
 returns-4 c = let a = c .before .before .before .before .before .before .args in record { answers = answered (a .column .now) (a .borders .now) (a .imprints .now) (a .dictionary .now) (a .low) (a .high) (a .rows .now) checking.NoIndex (sym (c .before .before .checked .ensures) ∙ c .enum-told3 .given .1) searching.NoIndex refl; rows-after = refl }
 
--- src/lib.rt:118:1
 same-length : tie.Need-same-length
 same-length c = search needs
 
--- src/lib.rt:118:1
 returns-5 : tie.Need-returns-5
 returns-5 c =
     let s = c .before .before .before .before .before .before .before .before .before .before .before .before .before in

@@ -11,39 +11,30 @@ use Rattle.guarded_search.proofs.denied.Reads as reads
 use Rattle.guarded_search.proofs.denied.Lts as lts
 use Rattle.column_index.proofs.checked.Reads as checked-reads
 
--- src/lib.rt:168:11
 checked-requires : tie.Need-checked-requires
 checked-requires c κs = search needs
 
--- src/lib.rt:169:32
 enum-told : tie.Need-enum-told
 enum-told c = search needs
 
--- src/lib.rt:170:35
 enum-told-2 : tie.Need-enum-told-2
 enum-told-2 c = search needs
 
--- src/lib.rt:171:32
 enum-told-3 : tie.Need-enum-told-3
 enum-told-3 c = search needs
 
--- src/lib.rt:173:22
 enum-told-4 : tie.Need-enum-told-4
 enum-told-4 c = search needs
 
--- src/lib.rt:165:1
 returns : tie.Need-returns
 returns c = sym (ap (λ (x : IndexCheck). of-index x (guard.Done Denied 0 0 0 0)) (sym (c .before .before .checked .ensures) ∙ c .enum-told .given .1))
 
--- src/lib.rt:165:1
 returns-2 : tie.Need-returns-2
 returns-2 c = sym (ap (λ (x : IndexCheck). of-index x (guard.Done Denied 0 0 0 0)) (sym (c .before .before .checked .ensures) ∙ c .enum-told2 .given .1))
 
--- src/lib.rt:165:1
 returns-3 : tie.Need-returns-3
 returns-3 c = sym (ap (λ (x : IndexCheck). of-index x (guard.Done Denied 0 0 0 0)) (sym (c .before .before .checked .ensures) ∙ c .enum-told3 .given .1))
 
--- src/lib.rt:165:1
 returns-4 : tie.Need-returns-4
 returns-4 c = sym (ap (λ (x : IndexCheck). of-index x (guard.Done Denied 0 0 0 0)) (sym (c .before .before .checked .ensures) ∙ c .enum-told4 .given .1))
 

@@ -22,35 +22,27 @@ Inv-loop column span lo hi gap₀ i₀ gap i = (i ≤ length column) × (narrow-
 abbrev μ-loop : tie.MeasureT-loop
 μ-loop column span lo hi gap₀ i₀ gap i = length column - i
 
--- src/lib.rt:125:15
 sub-t7 : tie.Need-sub-t7 Inv-loop μ-loop
 sub-t7 c = search needs
 
--- src/lib.rt:129:5
 loop-holds : tie.Need-loop-holds Inv-loop μ-loop
 loop-holds c = (omega arith, refl)
 
--- src/lib.rt:130:29
 mul-narrowed : tie.Need-mul-narrowed Inv-loop μ-loop
 mul-narrowed c = search needs
 
--- src/lib.rt:130:29
 shared-slice-copy-out-narrowed : tie.Need-shared-slice-copy-out-narrowed Inv-loop μ-loop
 shared-slice-copy-out-narrowed c = search needs
 
--- src/lib.rt:130:9
 narrowed-requires : tie.Need-narrowed-requires Inv-loop μ-loop
 narrowed-requires c κs = search needs
 
--- src/lib.rt:131:9
 add-i : tie.Need-add-i Inv-loop μ-loop
 add-i c = search needs
 
--- src/lib.rt:129:5
 loop-less : tie.Need-loop-less Inv-loop μ-loop
 loop-less c = search needs
 
--- src/lib.rt:129:5
 loop-again : tie.Need-loop-again Inv-loop μ-loop
 loop-again c =
     let l = c .before .before .before .loop in
@@ -59,7 +51,6 @@ loop-again c =
     let e = toZ-ofZ w32 v (record { sfits = c .before .narrowed-arg .given }) in
     (omega arith, ap (λ (g : Gap). narrow-all (a .span) (a .lo) (a .hi) g (drop (l .i + 1) (a .column .now))) (c .narrowed .ensures ∙ ap (narrow (a .span) (a .lo) (a .hi) (l .gap)) e) ∙ sym (narrow-turn (a .span) (a .lo) (a .hi) (l .gap) (a .column .now) (l .i) (c .before .before .loop-test .taken)) ∙ l .inv .1)
 
--- src/lib.rt:119:1
 returns : tie.Need-returns Inv-loop μ-loop
 returns c =
     let a = c .before .before .args in

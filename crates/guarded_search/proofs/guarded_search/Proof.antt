@@ -13,31 +13,24 @@ use Rattle.guarded_search.proofs.denied.Reads as denied-reads
 use Rattle.guarded_search.proofs.look.Reads as look-reads
 use Rattle.range_filter.proofs.ask.Reads as ask-reads
 
--- src/lib.rt:244:11
 ask-requires : tie.Need-ask-requires
 ask-requires c κs = search needs
 
--- src/lib.rt:245:28
 enum-told : tie.Need-enum-told
 enum-told c = search needs
 
--- src/lib.rt:246:25
 enum-told-2 : tie.Need-enum-told-2
 enum-told-2 c = search needs
 
--- src/lib.rt:247:25
 enum-told-3 : tie.Need-enum-told-3
 enum-told-3 c = search needs
 
--- src/lib.rt:248:26
 enum-told-4 : tie.Need-enum-told-4
 enum-told-4 c = search needs
 
--- src/lib.rt:248:26
 denied-requires : tie.Need-denied-requires
 denied-requires c κs = search needs
 
--- src/lib.rt:249:29
 enum-told-5 : tie.Need-enum-told-5
 enum-told-5 c = search needs
 
@@ -45,59 +38,47 @@ enum-told-5 c = search needs
 said : (c : tie.After-enum-told5) → let s = c .before .before .before .before .before .before .before .before in Ask (s .args .words .now) (s .args .low .0) (s .args .high .0) asked.Look
 said c = let s = c .before .before .before .before .before .before .before .before in subst (λ (a : Asked). Ask (s .args .words .now) (s .args .low .0) (s .args .high .0) a) (c .enum-told5 .given .1) (c .before .before .ask .ensures)
 
--- src/lib.rt:249:24
 look-requires : tie.Need-look-requires
 look-requires c κs = looks-of (said (c .before .before))
 
--- src/lib.rt:232:1
 same-length : tie.Need-same-length
 same-length c = search needs
 
--- src/lib.rt:232:1
 returns : tie.Need-returns
 returns c =
     let s = c .before .before .before .before .before .before .before .before in
     guards-no-filter (subst (λ (a : Asked). Ask (s .args .words .now) (s .args .low .0) (s .args .high .0) a) (c .enum-told .given .1) (c .before .before .ask .ensures))
 
--- src/lib.rt:232:1
 same-length-2 : tie.Need-same-length-2
 same-length-2 c = search needs
 
--- src/lib.rt:232:1
 returns-2 : tie.Need-returns-2
 returns-2 c =
     let s = c .before .before .before .before .before .before .before .before in
     guards-no-key (subst (λ (a : Asked). Ask (s .args .words .now) (s .args .low .0) (s .args .high .0) a) (c .enum-told2 .given .1) (c .before .before .ask .ensures))
 
--- src/lib.rt:232:1
 same-length-3 : tie.Need-same-length-3
 same-length-3 c = search needs
 
--- src/lib.rt:232:1
 returns-3 : tie.Need-returns-3
 returns-3 c =
     let s = c .before .before .before .before .before .before .before .before in
     guards-order (subst (λ (a : Asked). Ask (s .args .words .now) (s .args .low .0) (s .args .high .0) a) (c .enum-told3 .given .1) (c .before .before .ask .ensures))
 
--- src/lib.rt:232:1
 same-length-4 : tie.Need-same-length-4
 same-length-4 c = search needs
 
--- src/lib.rt:232:1
 returns-4 : tie.Need-returns-4
 returns-4 c =
     let s = c .before .before .before .before .before .before .before .before .before in
     guards-denied (subst (λ (a : Asked). Ask (s .args .words .now) (s .args .low .0) (s .args .high .0) a) (c .before .enum-told4 .given .1) (c .before .before .before .ask .ensures)) (c .denied .result) (c .denied .ensures)
 
--- src/lib.rt:232:1
 same-length-5 : tie.Need-same-length-5
 same-length-5 c = search needs
 
--- src/lib.rt:232:1
 same-length-6 : tie.Need-same-length-6
 same-length-6 c = search needs
 
--- src/lib.rt:232:1
 returns-5 : tie.Need-returns-5
 returns-5 c = guards-sought (said (c .before .before .before .before .before .before .before)) (c .before .before .before .before .look .ensures)
 

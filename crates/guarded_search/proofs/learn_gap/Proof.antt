@@ -17,44 +17,35 @@ use Rattle.guarded_search.proofs.span_of.Reads as span-of-reads
 use Rattle.range_filter.proofs.learn.Reads as learn-reads
 use Rattle.range_filter.proofs.read.Reads as read-reads
 
--- src/lib.rt:154:35
 read-requires : tie.Need-read-requires
 read-requires c κs = search needs
 
--- src/lib.rt:154:24
 enum-known-meaning : tie.Need-enum-known-meaning
 enum-known-meaning c = search needs
 
--- src/lib.rt:155:9
 enum-told : tie.Need-enum-told
 enum-told c = search needs
 
--- src/lib.rt:155:9
 same-length : tie.Need-same-length
 same-length c = search needs
 
--- src/lib.rt:155:9
 returns : tie.Need-returns
 returns c =
     let s = c .before .before .before .before .before in
     absurd (read-never (s .pre) (subst (λ (r : Reading). Read (s .args .words .now) r) (c .enum-told .given .1) (c .before .before .read .ensures)))
 
--- src/lib.rt:157:34
 meant : (c : tie.After-known-told) → Read (c .before .before .before .before .before .before .args .words .now) (reading.Means (c .before .meaning .given .0 .0))
 meant c = subst (λ (r : Reading). Read (c .before .before .before .before .before .before .args .words .now) r) (c .before .meaning .given .1) (c .before .before .before .read .ensures)
 
 span-of-requires : tie.Need-span-of-requires
 span-of-requires c κs = read-few (c .before .before .before .before .before .before .pre) (meant c)
 
--- src/lib.rt:157:9
 gap-around-requires : tie.Need-gap-around-requires
 gap-around-requires c κs = omega (arith, c .span-of .ensures, pow-pos (c .before .before .meaning .given .0 .0 .levels))
 
--- src/lib.rt:159:9
 same-length-2 : tie.Need-same-length-2
 same-length-2 c = search needs
 
--- src/lib.rt:159:9
 returns-2 : tie.Need-returns-2
 returns-2 c =
     let s = c .before .before .before .before .before .before .before .before .before in
@@ -62,19 +53,15 @@ returns-2 c =
     let g = c .before .gap-around in
     missed-hidden (s .pre) (meant (c .before .before .before)) (k .result) (k .ensures) (s .args .column .now) (g .result) (g .ensures) (c .if1 .taken)
 
--- src/lib.rt:161:16
 learn-requires : tie.Need-learn-requires
 learn-requires c κs = search needs
 
--- src/lib.rt:161:5
 outcome-of-requires : tie.Need-outcome-of-requires
 outcome-of-requires c κs = search needs
 
--- src/lib.rt:150:1
 same-length-3 : tie.Need-same-length-3
 same-length-3 c = search needs
 
--- src/lib.rt:150:1
 returns-3 : tie.Need-returns-3
 returns-3 c =
     let b = c .before .before .before .before .before .before in

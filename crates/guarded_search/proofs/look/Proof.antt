@@ -18,51 +18,39 @@ use Rattle.column_index.proofs.search.Reads as search-reads
 use Rattle.guarded_search.proofs.learn_gap.Reads as learn-gap-reads
 use Rattle.guarded_search.proofs.value_of.Reads as value-of-reads
 
--- src/lib.rt:196:9
 value-of-requires : tie.Need-value-of-requires
 value-of-requires c κs = looks-small (c .before .before .before .before .pre) .0
 
--- src/lib.rt:197:9
 value-of-requires-2 : tie.Need-value-of-requires-2
 value-of-requires-2 c κs = looks-small (c .before .before .before .before .before .pre) .1
 
--- src/lib.rt:198:11
 search-requires : tie.Need-search-requires
 search-requires c κs = search needs
 
--- src/lib.rt:199:34
 enum-told : tie.Need-enum-told
 enum-told c = search needs
 
--- src/lib.rt:200:37
 enum-told-2 : tie.Need-enum-told-2
 enum-told-2 c = search needs
 
--- src/lib.rt:201:34
 enum-told-3 : tie.Need-enum-told-3
 enum-told-3 c = search needs
 
--- src/lib.rt:202:39
 enum-told-4 : tie.Need-enum-told-4
 enum-told-4 c = search needs
 
--- src/lib.rt:203:29
 enum-known-n : tie.Need-enum-known-n
 enum-known-n c = search needs
 
--- src/lib.rt:205:19
 enum-known-n-2 : tie.Need-enum-known-n-2
 enum-known-n-2 c = search needs
 
--- src/lib.rt:211:21
 learn-gap-requires : tie.Need-learn-gap-requires
 learn-gap-requires c κs = search needs
 
--- src/lib.rt:212:17
 same-length : tie.Need-same-length
 same-length c = search needs
 
--- src/lib.rt:212:17
 same-length-2 : tie.Need-same-length-2
 same-length-2 c = search needs
 
@@ -75,7 +63,6 @@ searched c =
     let h = ap (λ (z : ℤ). toZ w32 (ofZ w32 z)) (c .before .before .value-of2 .ensures) ∙ toZ-pos w32 (s .args .high .0) (small .1) in
     subst₂ (λ (x y : ℤ). Searches (s .args .column .now) (s .args .borders .now) (s .args .imprints .now) (s .args .dictionary .now) x y (s .args .rows .now) (c .search .result) (c .search .last .1 .1 .1 .1 .1 .1 .0)) l h (c .search .ensures)
 
--- src/lib.rt:212:17
 returns : tie.Need-returns
 returns c =
     let s = c .before .before .before .before .before .before .before .before .before .before .before .before .before .before .before .before .before .before in
@@ -83,62 +70,50 @@ returns c =
     let g = c .before .before .learn-gap in
     sought-missed (s .pre) (searched (c .before .before .before .before .before .before .before .before .before .before)) (n .0 .0) (n .0 .1 .0) (n .0 .1 .1 .0) (n .0 .1 .1 .1 .0) (n .1) (c .before .before .before .before .if1 .taken) (g .result) (g .last .0) (g .ensures)
 
--- src/lib.rt:183:1
 same-length-3 : tie.Need-same-length-3
 same-length-3 c = search needs
 
--- src/lib.rt:183:1
 returns-2 : tie.Need-returns-2
 returns-2 c =
     let s = c .before .before .before .before .before .before .before .before .before .before .before .before in
     sought-refused (s .pre) (searched (c .before .before .before .before)) guard.TooLong (λ o. ap (λ (y : SearchAnswer). answer-of y o) (sym (c .enum-told .given .1))) (λ e. omega arith)
 
--- src/lib.rt:183:1
 same-length-4 : tie.Need-same-length-4
 same-length-4 c = search needs
 
--- src/lib.rt:183:1
 returns-3 : tie.Need-returns-3
 returns-3 c =
     let s = c .before .before .before .before .before .before .before .before .before .before .before .before in
     sought-refused (s .pre) (searched (c .before .before .before .before)) guard.BadBorders (λ o. ap (λ (y : SearchAnswer). answer-of y o) (sym (c .enum-told2 .given .1))) (λ e. omega arith)
 
--- src/lib.rt:183:1
 same-length-5 : tie.Need-same-length-5
 same-length-5 c = search needs
 
--- src/lib.rt:183:1
 returns-4 : tie.Need-returns-4
 returns-4 c =
     let s = c .before .before .before .before .before .before .before .before .before .before .before .before in
     sought-refused (s .pre) (searched (c .before .before .before .before)) guard.NoIndex (λ o. ap (λ (y : SearchAnswer). answer-of y o) (sym (c .enum-told3 .given .1))) (λ e. omega arith)
 
--- src/lib.rt:183:1
 same-length-6 : tie.Need-same-length-6
 same-length-6 c = search needs
 
--- src/lib.rt:183:1
 returns-5 : tie.Need-returns-5
 returns-5 c =
     let s = c .before .before .before .before .before .before .before .before .before .before .before .before in
     sought-refused (s .pre) (searched (c .before .before .before .before)) guard.LowAboveHigh (λ o. ap (λ (y : SearchAnswer). answer-of y o) (sym (c .enum-told4 .given .1))) (λ e. omega arith)
 
--- src/lib.rt:183:1
 same-length-7 : tie.Need-same-length-7
 same-length-7 c = search needs
 
--- src/lib.rt:183:1
 returns-6 : tie.Need-returns-6
 returns-6 c =
     let s = c .before .before .before .before .before .before .before .before .before .before .before .before .before in
     let n = c .before .n .given in
     sought-refused (s .pre) (searched (c .before .before .before .before .before)) (guard.Short (n .0 .0)) (λ o. ap (λ (y : SearchAnswer). answer-of y o) (sym (n .1))) (λ e. omega arith)
 
--- src/lib.rt:183:1
 same-length-8 : tie.Need-same-length-8
 same-length-8 c = search needs
 
--- src/lib.rt:183:1
 returns-7 : tie.Need-returns-7
 returns-7 c =
     let s = c .before .before .before .before .before .before .before .before .before .before .before .before .before .before in

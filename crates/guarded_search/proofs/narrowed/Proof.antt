@@ -13,19 +13,15 @@ use Rattle.guarded_search.proofs.narrowed.Reads as reads
 use Rattle.guarded_search.proofs.narrowed.Lts as lts
 use Rattle.guarded_search.proofs.narrowed_by.Reads as narrowed-by-reads
 
--- src/lib.rt:113:9
 returns : tie.Need-returns
 returns c = let s = c .before in narrow-negative (s .args .span) (s .args .lo) (s .args .hi) (s .args .gap) (s .args .v) (sym (ap (λ (z : ℤ). ltZ z (pos 0)) (toZ-ofZ w32 (s .args .v) (s .fits .v))) ∙ c .if1 .taken)
 
--- src/lib.rt:115:22
 cast-narrowed-by : tie.Need-cast-narrowed-by
 cast-narrowed-by c = let s = c .before in rw (toZ-ofZ w32 (s .args .v) (s .fits .v)) (natural-fits (s .args .v) (s .fits .v) (sym (ap (λ (z : ℤ). ltZ z (pos 0)) (toZ-ofZ w32 (s .args .v) (s .fits .v))) ∙ c .if1 .left))
 
--- src/lib.rt:115:5
 narrowed-by-requires : tie.Need-narrowed-by-requires
 narrowed-by-requires c κs = search needs
 
--- src/lib.rt:109:1
 returns-2 : tie.Need-returns-2
 returns-2 c =
     let s = c .before .before in

@@ -8,35 +8,27 @@ use Rattle.guarded_search.proofs.narrowed_by.Lts as lts
 use Rattle.guarded_search.proofs.greater.Reads as greater-reads
 use Rattle.guarded_search.proofs.lesser.Reads as lesser-reads
 
--- src/lib.rt:87:30
 add-greater : tie.Need-add-greater
 add-greater c = search needs
 
--- src/lib.rt:87:22
 greater-requires : tie.Need-greater-requires
 greater-requires c κs = search needs
 
--- src/lib.rt:86:13
 returns : tie.Need-returns
 returns c = let a = c .before .before .before .args in narrow-low (a .span) (a .lo) (a .hi) (a .x) (a .gap) (c .before .before .if1 .taken) (c .before .if2 .taken) (c .greater .result) (c .greater .ensures)
 
--- src/lib.rt:95:30
 sub-lesser : tie.Need-sub-lesser
 sub-lesser c = search needs
 
--- src/lib.rt:95:23
 lesser-requires : tie.Need-lesser-requires
 lesser-requires c κs = search needs
 
--- src/lib.rt:93:13
 returns-2 : tie.Need-returns-2
 returns-2 c = let a = c .before .before .before .before .args in narrow-high (a .span) (a .lo) (a .hi) (a .x) (a .gap) (c .before .before .before .if1 .taken) (c .before .before .if2 .left) (c .before .if3 .taken) (c .lesser .result) (c .lesser .ensures)
 
--- src/lib.rt:99:9
 returns-3 : tie.Need-returns-3
 returns-3 c = let a = c .before .before .before .args in narrow-inside (a .span) (a .lo) (a .hi) (a .x) (a .gap) (c .before .before .if1 .taken) (c .before .if2 .left) (c .if3 .left)
 
--- src/lib.rt:81:1
 returns-4 : tie.Need-returns-4
 returns-4 c = let a = c .before .args in narrow-far (a .span) (a .lo) (a .hi) (a .x) (a .gap) (c .if1 .left)
 

@@ -7,11 +7,9 @@ use Rattle.guarded_search.proofs.span_of.Tie as tie
 use Rattle.guarded_search.proofs.span_of.Reads as reads
 use Rattle.guarded_search.proofs.span_of.Lts as lts
 
--- src/lib.rt:57:5
 shl-result : tie.Need-shl-result
 shl-result c = search needs
 
--- src/lib.rt:53:1
 returns : tie.Need-returns
 returns c = omega (arith, pow-mono (c .pre))
 

@@ -7,11 +7,9 @@ use Rattle.guarded_search.proofs.value_of.Tie as tie
 use Rattle.guarded_search.proofs.value_of.Reads as reads
 use Rattle.guarded_search.proofs.value_of.Lts as lts
 
--- src/lib.rt:65:5
 cast-result : tie.Need-cast-result
 cast-result c = search needs
 
--- src/lib.rt:61:1
 returns : tie.Need-returns
 returns c = toZ-pos w32 (c .args .key) (c .pre)
 

@@ -33,7 +33,6 @@ after-below t = and 1 after-kinds.ps (falls 1 after-kinds.ps _<_ μ-after t) aft
 abbrev calls : ℕ → after-lts.Claims
 calls t = (form-at-reads.Asked, form-at-reads.Learnt, flat-reads.Asked, flat-reads.Learnt, halves-reads.Asked, halves-reads.Learnt, parted-reads.Asked, parted-reads.Learnt, after-below t, after.Post, joined-reads.Asked, joined-reads.Learnt)
 
--- src/lib.rt:175:9
 after-form-at-requires : (t : ℕ) → after-lts.Need-form-at-requires (calls t) (after-at t) after.Post
 after-form-at-requires t c κs =
     let s = c .before .before in
@@ -42,14 +41,12 @@ after-form-at-requires t c κs =
     let here = s .pre .1 in
     laws.as-laid w (a .at .0) (a .n) (a .k) (a .span) (a .lo) (a .hi) here
 
--- src/lib.rt:175:9
 after-returns : (t : ℕ) → after-lts.Need-returns (calls t) (after-at t) after.Post
 after-returns t c =
     let s = c .before .before .before in
     let a = s .args in
     λ D h. c .form-at .ensures (treeOf (a .k) D) h ∙ sym (ap formOf (paint-none (a .k) (a .b) (a .lo) (a .hi) D (c .before .if1 .taken)))
 
--- src/lib.rt:177:19
 after-sub-if2 : (t : ℕ) → after-lts.Need-sub-if2 (calls t) (after-at t) after.Post
 after-sub-if2 t c =
     let s = c .before .before in
@@ -58,11 +55,9 @@ after-sub-if2 t c =
     let here = s .pre .1 in
     omega (arith, laws.span-pos w (a .at .0) (a .n) (a .k) (a .span) (a .lo) (a .hi) here)
 
--- src/lib.rt:178:9
 after-flat-requires : (t : ℕ) → after-lts.Need-flat-requires (calls t) (after-at t) after.Post
 after-flat-requires t c κs = search needs
 
--- src/lib.rt:178:9
 after-returns-2 : (t : ℕ) → after-lts.Need-returns-2 (calls t) (after-at t) after.Post
 after-returns-2 t c =
     let s = c .before .before .before .before in
@@ -71,7 +66,6 @@ after-returns-2 t c =
     let here = s .pre .1 in
     λ D h. c .flat .ensures ∙ sym (ap formOf (laws.whole-tree w (a .at .0) (a .n) (a .k) (a .span) (a .lo) (a .hi) here (c .before .before .if1 .left) (c .before .if2 .taken) (a .b) D))
 
--- src/lib.rt:181:9
 after-halves-requires : (t : ℕ) → after-lts.Need-halves-requires (calls t) (after-at t) after.Post
 after-halves-requires t c κs =
     let f = c in
@@ -82,7 +76,6 @@ after-halves-requires t c κs =
     let deep = laws.deep w (a .at .0) (a .n) (a .k) (a .span) (a .lo) (a .hi) here (f .before .if1 .left) (f .if2 .left) in
     laws.as-sub w (a .at .0) (a .n) (a .k) (a .span) (a .lo) (a .hi) here deep
 
--- src/lib.rt:182:9
 after-parted-requires : (t : ℕ) → after-lts.Need-parted-requires (calls t) (after-at t) after.Post
 after-parted-requires t c κs =
     let f = c .before in
@@ -93,7 +86,6 @@ after-parted-requires t c κs =
     let deep = laws.deep w (a .at .0) (a .n) (a .k) (a .span) (a .lo) (a .hi) here (f .before .if1 .left) (f .if2 .left) in
     laws.half-pos w (a .at .0) (a .n) (a .k) (a .span) (a .lo) (a .hi) here deep
 
--- src/lib.rt:184:30
 after-sub-after : (t : ℕ) → after-lts.Need-sub-after (calls t) (after-at t) after.Post
 after-sub-after t c =
     let f = c .before .before in
@@ -104,7 +96,6 @@ after-sub-after t c =
     let deep = laws.deep w (a .at .0) (a .n) (a .k) (a .span) (a .lo) (a .hi) here (f .before .if1 .left) (f .if2 .left) in
     omega arith
 
--- src/lib.rt:184:9
 after-after-requires : (t : ℕ) → after-lts.Need-after-requires (calls t) (after-at t) after.Post
 after-after-requires t c κs =
     let f = c .before .before in
@@ -118,7 +109,6 @@ after-after-requires t c κs =
     let r = g .parted .result in
     (omega (arith, s .pre .0), laws.left-spot w (a .at .0) (a .n) (a .k) (a .span) (a .lo) (a .hi) here deep (h .lp .0) (h .ln) (h .rp .0) (h .rn) (g .before .halves .ensures) (r .llo) (r .lhi) (r .rlo) (r .rhi) (g .parted .ensures))
 
--- src/lib.rt:185:30
 after-sub-after-2 : (t : ℕ) → after-lts.Need-sub-after-2 (calls t) (after-at t) after.Post
 after-sub-after-2 t c =
     let f = c .before .before .before in
@@ -129,7 +119,6 @@ after-sub-after-2 t c =
     let deep = laws.deep w (a .at .0) (a .n) (a .k) (a .span) (a .lo) (a .hi) here (f .before .if1 .left) (f .if2 .left) in
     omega arith
 
--- src/lib.rt:185:9
 after-after-requires-2 : (t : ℕ) → after-lts.Need-after-requires-2 (calls t) (after-at t) after.Post
 after-after-requires-2 t c κs =
     let f = c .before .before .before in
@@ -143,7 +132,6 @@ after-after-requires-2 t c κs =
     let r = g .parted .result in
     (omega (arith, s .pre .0), laws.right-spot w (a .at .0) (a .n) (a .k) (a .span) (a .lo) (a .hi) here deep (h .lp .0) (h .ln) (h .rp .0) (h .rn) (g .before .halves .ensures) (r .llo) (r .lhi) (r .rlo) (r .rhi) (g .parted .ensures))
 
--- src/lib.rt:183:5
 after-joined-requires : (t : ℕ) → after-lts.Need-joined-requires (calls t) (after-at t) after.Post
 after-joined-requires t c κs =
     let f = c .before .before .before .before in
@@ -160,7 +148,6 @@ after-joined-requires t c κs =
     let R = shift (2 ^ (a .k - 1)) S in
     omega (arith, ap splitsOf (c .before .after .ensures S (m .left)), ap splitsOf (c .after2 .ensures R (m .right)), laws.form-small w (a .at .0) (a .n) (a .k) (a .span) (a .lo) (a .hi) here deep (h .lp .0) (h .ln) (h .rp .0) (h .rn) (g .before .halves .ensures) (r .llo) (r .lhi) (r .rlo) (r .rhi) (g .parted .ensures) (paint (a .b) (r .llo) (r .lhi) S), laws.form-small w (a .at .0) (a .n) (a .k) (a .span) (a .lo) (a .hi) here deep (h .lp .0) (h .ln) (h .rp .0) (h .rn) (g .before .halves .ensures) (r .llo) (r .lhi) (r .rlo) (r .rhi) (g .parted .ensures) (paint (a .b) (r .rlo) (r .rhi) R))
 
--- src/lib.rt:170:1
 after-returns-3 : (t : ℕ) → after-lts.Need-returns-3 (calls t) (after-at t) after.Post
 after-returns-3 t c =
     let f = c .before .before .before .before .before in

@@ -23,7 +23,6 @@ all-in-at t = and 1 all-in-kinds.ps (is 1 all-in-kinds.ps μ-all-in t) all-in.Pr
 abbrev all-in-below : ℕ → In 1 all-in-kinds.ps
 all-in-below t = and 1 all-in-kinds.ps (falls 1 all-in-kinds.ps _<_ μ-all-in t) all-in.Pre
 
--- src/lib.rt:52:13
 all-in-mul-v :
     (t : ℕ) → all-in-lts.Need-mul-v (all-in-below t, all-in.Post) (all-in-at t) all-in.Post
 all-in-mul-v t c =
@@ -33,7 +32,6 @@ all-in-mul-v t c =
     let here = s .pre .1 in
     omega (arith, laws.in-words w (a .at .0) (a .k) (a .span) (a .lo) (a .hi) here)
 
--- src/lib.rt:52:13
 all-in-shared-slice-read-v : (t : ℕ) → all-in-lts.Need-shared-slice-read-v (
   all-in-below t,
   all-in.Post,
@@ -45,7 +43,6 @@ all-in-shared-slice-read-v t c =
     let here = s .pre .1 in
     omega (arith, laws.in-words w (a .at .0) (a .k) (a .span) (a .lo) (a .hi) here)
 
--- src/lib.rt:54:9
 all-in-returns :
     (t : ℕ) → all-in-lts.Need-returns (all-in-below t, all-in.Post) (all-in-at t) all-in.Post
 all-in-returns t c =
@@ -55,7 +52,6 @@ all-in-returns t c =
     let here = s .pre .1 in
     laws.says-out w (a .at .0) (a .k) (a .span) (a .lo) (a .hi) here (c .if1 .taken)
 
--- src/lib.rt:57:9
 all-in-returns-2 :
     (t : ℕ) → all-in-lts.Need-returns-2 (all-in-below t, all-in.Post) (all-in-at t) all-in.Post
 all-in-returns-2 t c =
@@ -65,7 +61,6 @@ all-in-returns-2 t c =
     let here = s .pre .1 in
     laws.says-in w (a .at .0) (a .k) (a .span) (a .lo) (a .hi) here (c .if2 .taken)
 
--- src/lib.rt:60:18
 all-in-cast-q :
     (t : ℕ) → all-in-lts.Need-cast-q (all-in-below t, all-in.Post) (all-in-at t) all-in.Post
 all-in-cast-q t c =
@@ -76,7 +71,6 @@ all-in-cast-q t c =
     let n1 = e .if2 .left in
     omega (arith, e .before .before .shared-slice-known2 .given (a .at .0))
 
--- src/lib.rt:60:13
 all-in-add-q :
     (t : ℕ) → all-in-lts.Need-add-q (all-in-below t, all-in.Post) (all-in-at t) all-in.Post
 all-in-add-q t c =
@@ -89,12 +83,10 @@ all-in-add-q t c =
     let n1 = e .if2 .left in
     omega (arith, laws.right-in w (a .at .0) (a .k) (a .span) (a .lo) (a .hi) here n0 n1, s .good .0 .0)
 
--- src/lib.rt:60:13
 all-in-sub-q :
     (t : ℕ) → all-in-lts.Need-sub-q (all-in-below t, all-in.Post) (all-in-at t) all-in.Post
 all-in-sub-q t c = search needs
 
--- src/lib.rt:62:26
 all-in-add-all-in :
     (t : ℕ) → all-in-lts.Need-add-t16 (all-in-below t, all-in.Post) (all-in-at t) all-in.Post
 all-in-add-all-in t c =
@@ -107,7 +99,6 @@ all-in-add-all-in t c =
     let n1 = e .if2 .left in
     omega (arith, laws.in-words w (a .at .0) (a .k) (a .span) (a .lo) (a .hi) here)
 
--- src/lib.rt:62:33
 all-in-sub-all-in :
     (t : ℕ) → all-in-lts.Need-sub-all-in (all-in-below t, all-in.Post) (all-in-at t) all-in.Post
 all-in-sub-all-in t c =
@@ -121,7 +112,6 @@ all-in-sub-all-in t c =
     let deep = laws.deep w (a .at .0) (a .k) (a .span) (a .lo) (a .hi) here n0 n1 in
     omega arith
 
--- src/lib.rt:62:9
 all-in-all-in-requires :
     (t : ℕ) →
     all-in-lts.Need-all-in-requires (all-in-below t, all-in.Post) (all-in-at t) all-in.Post
@@ -135,7 +125,6 @@ all-in-all-in-requires t c κs =
     let n1 = e .if2 .left in
     ((let deep = laws.deep w (a .at .0) (a .k) (a .span) (a .lo) (a .hi) here n0 n1 in omega (arith, s .pre .0)), laws.go-left w (a .at .0) (a .k) (a .span) (a .lo) (a .hi) here n0 n1 (a .hi) (c .if3 .taken) (here .order))
 
--- src/lib.rt:62:9
 all-in-returns-3 :
     (t : ℕ) → all-in-lts.Need-returns-3 (all-in-below t, all-in.Post) (all-in-at t) all-in.Post
 all-in-returns-3 t c =
@@ -148,7 +137,6 @@ all-in-returns-3 t c =
     let n1 = e .if2 .left in
     λ D h. c .all-in .ensures D (laws.halves w (a .at .0) (a .k) (a .span) (a .lo) (a .hi) here n0 n1 D h .left)
 
--- src/lib.rt:65:29
 all-in-sub-all-in-2 :
     (t : ℕ) → all-in-lts.Need-sub-all-in-2 (all-in-below t, all-in.Post) (all-in-at t) all-in.Post
 all-in-sub-all-in-2 t c =
@@ -162,7 +150,6 @@ all-in-sub-all-in-2 t c =
     let deep = laws.deep w (a .at .0) (a .k) (a .span) (a .lo) (a .hi) here n0 n1 in
     omega arith
 
--- src/lib.rt:65:9
 all-in-all-in-requires-2 : (t : ℕ) → all-in-lts.Need-all-in-requires-2 (
   all-in-below t,
   all-in.Post,
@@ -177,7 +164,6 @@ all-in-all-in-requires-2 t c κs =
     let n1 = e .if2 .left in
     ((let deep = laws.deep w (a .at .0) (a .k) (a .span) (a .lo) (a .hi) here n0 n1 in omega (arith, s .pre .0)), laws.go-right w (a .at .0) (a .k) (a .span) (a .lo) (a .hi) here n0 n1 (a .lo - a .span / 2) (c .before .if3 .left) (omega (arith, here .order)))
 
--- src/lib.rt:65:9
 all-in-returns-4 :
     (t : ℕ) → all-in-lts.Need-returns-4 (all-in-below t, all-in.Post) (all-in-at t) all-in.Post
 all-in-returns-4 t c =
@@ -190,7 +176,6 @@ all-in-returns-4 t c =
     let n1 = e .if2 .left in
     λ D h. laws.says-high w (a .at .0) (a .k) (a .span) (a .lo) (a .hi) here n0 n1 (c .all-in2 .result) D (c .before .if4 .taken) (c .all-in2 .ensures (shift (2 ^ (a .k - 1)) D) (laws.right-at w (a .at .0) (a .k) (a .span) (a .lo) (a .hi) here n0 n1 D h))
 
--- src/lib.rt:67:18
 all-in-add-all-in-2 :
     (t : ℕ) → all-in-lts.Need-add-t15 (all-in-below t, all-in.Post) (all-in-at t) all-in.Post
 all-in-add-all-in-2 t c =
@@ -203,7 +188,6 @@ all-in-add-all-in-2 t c =
     let n1 = e .if2 .left in
     omega (arith, laws.in-words w (a .at .0) (a .k) (a .span) (a .lo) (a .hi) here)
 
--- src/lib.rt:67:25
 all-in-sub-all-in-3 :
     (t : ℕ) → all-in-lts.Need-sub-all-in-3 (all-in-below t, all-in.Post) (all-in-at t) all-in.Post
 all-in-sub-all-in-3 t c =
@@ -217,7 +201,6 @@ all-in-sub-all-in-3 t c =
     let deep = laws.deep w (a .at .0) (a .k) (a .span) (a .lo) (a .hi) here n0 n1 in
     omega arith
 
--- src/lib.rt:67:42
 all-in-sub-all-in-4 :
     (t : ℕ) → all-in-lts.Need-sub-all-in-4 (all-in-below t, all-in.Post) (all-in-at t) all-in.Post
 all-in-sub-all-in-4 t c =
@@ -230,7 +213,6 @@ all-in-sub-all-in-4 t c =
     let n1 = e .if2 .left in
     omega (arith, laws.half-pos w (a .at .0) (a .k) (a .span) (a .lo) (a .hi) here n0 n1)
 
--- src/lib.rt:67:8
 all-in-all-in-requires-3 : (t : ℕ) → all-in-lts.Need-all-in-requires-3 (
   all-in-below t,
   all-in.Post,
@@ -245,7 +227,6 @@ all-in-all-in-requires-3 t c κs =
     let n1 = e .if2 .left in
     ((let deep = laws.deep w (a .at .0) (a .k) (a .span) (a .lo) (a .hi) here n0 n1 in omega (arith, s .pre .0)), laws.go-left w (a .at .0) (a .k) (a .span) (a .lo) (a .hi) here n0 n1 (a .span / 2 - 1) (omega (arith, laws.half-pos w (a .at .0) (a .k) (a .span) (a .lo) (a .hi) here n0 n1)) (omega (arith, c .if4 .left)))
 
--- src/lib.rt:68:22
 all-in-sub-all-in-5 :
     (t : ℕ) → all-in-lts.Need-sub-all-in-5 (all-in-below t, all-in.Post) (all-in-at t) all-in.Post
 all-in-sub-all-in-5 t c =
@@ -259,7 +240,6 @@ all-in-sub-all-in-5 t c =
     let deep = laws.deep w (a .at .0) (a .k) (a .span) (a .lo) (a .hi) here n0 n1 in
     omega arith
 
--- src/lib.rt:68:9
 all-in-all-in-requires-4 : (t : ℕ) → all-in-lts.Need-all-in-requires-4 (
   all-in-below t,
   all-in.Post,
@@ -274,7 +254,6 @@ all-in-all-in-requires-4 t c κs =
     let n1 = e .if2 .left in
     ((let deep = laws.deep w (a .at .0) (a .k) (a .span) (a .lo) (a .hi) here n0 n1 in omega (arith, s .pre .0)), laws.go-right w (a .at .0) (a .k) (a .span) (a .lo) (a .hi) here n0 n1 0 (c .before .before .before .if3 .left) (omega arith))
 
--- src/lib.rt:48:1
 all-in-returns-5 :
     (t : ℕ) → all-in-lts.Need-returns-5 (all-in-below t, all-in.Post) (all-in-at t) all-in.Post
 all-in-returns-5 t c =
@@ -287,7 +266,6 @@ all-in-returns-5 t c =
     let n1 = e .if2 .left in
     λ D h. laws.says-both w (a .at .0) (a .k) (a .span) (a .lo) (a .hi) here n0 n1 (c .all-in4 .result) D (c .before .before .before .if4 .left) (c .before .before .before .before .if3 .left) (subst (λ r. Says r (AllIn D (a .lo) (a .span / 2 - 1))) (c .before .if5 .taken) (c .before .before .all-in3 .ensures D (laws.halves w (a .at .0) (a .k) (a .span) (a .lo) (a .hi) here n0 n1 D h .left))) (c .all-in4 .ensures (shift (2 ^ (a .k - 1)) D) (laws.right-at w (a .at .0) (a .k) (a .span) (a .lo) (a .hi) here n0 n1 D h))
 
--- src/lib.rt:48:1
 all-in-returns-6 :
     (t : ℕ) → all-in-lts.Need-returns-6 (all-in-below t, all-in.Post) (all-in-at t) all-in.Post
 all-in-returns-6 t c =

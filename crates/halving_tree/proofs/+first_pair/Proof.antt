@@ -35,7 +35,6 @@ first-pair-below t =
 abbrev calls : ℕ → first-pair-lts.Claims
 calls t = (pair-here-reads.Asked, pair-here-reads.Learnt, first-pair-below t, first-pair.Post, less-reads.Asked, less-reads.Learnt, shifted-reads.Asked, shifted-reads.Learnt, or-else-reads.Asked, or-else-reads.Learnt)
 
--- src/lib.rt:458:13
 first-pair-mul-v : (t : ℕ) → first-pair-lts.Need-mul-v (calls t) (first-pair-at t) first-pair.Post
 first-pair-mul-v t c =
     let s = c .before in
@@ -44,7 +43,6 @@ first-pair-mul-v t c =
     let here = s .pre .1 .0 in
     omega (arith, ask.in-words w (a .at .0) (a .k) (a .span) 0 0 here)
 
--- src/lib.rt:458:13
 first-pair-shared-slice-read-v : (t : ℕ) → first-pair-lts.Need-shared-slice-read-v (calls t) (first-pair-at t) first-pair.Post
 first-pair-shared-slice-read-v t c =
     let s = c .before .before in
@@ -53,7 +51,6 @@ first-pair-shared-slice-read-v t c =
     let here = s .pre .1 .0 in
     omega (arith, ask.in-words w (a .at .0) (a .k) (a .span) 0 0 here)
 
--- src/lib.rt:460:9
 first-pair-returns : (t : ℕ) → first-pair-lts.Need-returns (calls t) (first-pair-at t) first-pair.Post
 first-pair-returns t c =
     let s = c .before .before .before in
@@ -62,7 +59,6 @@ first-pair-returns t c =
     let here = s .pre .1 .0 in
     (laws.first-leaf w (a .at .0) (a .k) (a .span) here false (a .from) (c .if1 .taken), tt)
 
--- src/lib.rt:463:9
 first-pair-returns-2 : (t : ℕ) → first-pair-lts.Need-returns-2 (calls t) (first-pair-at t) first-pair.Post
 first-pair-returns-2 t c =
     let s = c .before .before .before .before in
@@ -71,7 +67,6 @@ first-pair-returns-2 t c =
     let here = s .pre .1 .0 in
     (laws.first-leaf w (a .at .0) (a .k) (a .span) here true (a .from) (c .if2 .taken), tt)
 
--- src/lib.rt:466:18
 first-pair-cast-q : (t : ℕ) → first-pair-lts.Need-cast-q (calls t) (first-pair-at t) first-pair.Post
 first-pair-cast-q t c =
     let e = c in
@@ -81,7 +76,6 @@ first-pair-cast-q t c =
     let n1 = e .if2 .left in
     omega (arith, e .before .before .shared-slice-known2 .given (a .at .0))
 
--- src/lib.rt:466:13
 first-pair-add-q : (t : ℕ) → first-pair-lts.Need-add-q (calls t) (first-pair-at t) first-pair.Post
 first-pair-add-q t c =
     let e = c in
@@ -93,7 +87,6 @@ first-pair-add-q t c =
     let n1 = e .if2 .left in
     omega (arith, ask.right-in w (a .at .0) (a .k) (a .span) 0 0 here n0 n1, s .good .0 .0)
 
--- src/lib.rt:466:13
 first-pair-sub-q : (t : ℕ) → first-pair-lts.Need-sub-q (calls t) (first-pair-at t) first-pair.Post
 first-pair-sub-q t c =
     let e = c in
@@ -101,7 +94,6 @@ first-pair-sub-q t c =
     let n1 = e .if2 .left in
     omega arith
 
--- src/lib.rt:467:29
 first-pair-add-pair-here : (t : ℕ) → first-pair-lts.Need-add-t13 (calls t) (first-pair-at t) first-pair.Post
 first-pair-add-pair-here t c =
     let e = c in
@@ -113,7 +105,6 @@ first-pair-add-pair-here t c =
     let n1 = e .if2 .left in
     omega (arith, ask.in-words w (a .at .0) (a .k) (a .span) 0 0 here, s .good .0 .0)
 
--- src/lib.rt:467:45
 first-pair-sub-pair-here : (t : ℕ) → first-pair-lts.Need-sub-pair-here (calls t) (first-pair-at t) first-pair.Post
 first-pair-sub-pair-here t c =
     let e = c in
@@ -123,7 +114,6 @@ first-pair-sub-pair-here t c =
     let n1 = e .if2 .left in
     omega (arith, here .inside)
 
--- src/lib.rt:467:9
 first-pair-pair-here-requires : (t : ℕ) → first-pair-lts.Need-pair-here-requires (calls t) (first-pair-at t) first-pair.Post
 first-pair-pair-here-requires t c κs =
     let e = c in
@@ -135,7 +125,6 @@ first-pair-pair-here-requires t c κs =
     let n1 = e .if2 .left in
     (at-in w (a .at .0 + 1) (treeOf (a .k - 1) (here .set)) (ask.halves w (a .at .0) (a .k) (a .span) 0 0 here n0 n1 (here .set) (here .laid) .left), ask.right-in w (a .at .0) (a .k) (a .span) 0 0 here n0 n1)
 
--- src/lib.rt:468:30
 first-pair-add-first-pair : (t : ℕ) → first-pair-lts.Need-add-t17 (calls t) (first-pair-at t) first-pair.Post
 first-pair-add-first-pair t c =
     let e = c .before in
@@ -147,7 +136,6 @@ first-pair-add-first-pair t c =
     let n1 = e .if2 .left in
     omega (arith, ask.in-words w (a .at .0) (a .k) (a .span) 0 0 here, s .good .0 .0)
 
--- src/lib.rt:468:37
 first-pair-sub-first-pair : (t : ℕ) → first-pair-lts.Need-sub-first-pair (calls t) (first-pair-at t) first-pair.Post
 first-pair-sub-first-pair t c =
     let e = c .before in
@@ -160,7 +148,6 @@ first-pair-sub-first-pair t c =
     let deep = ask.deep w (a .at .0) (a .k) (a .span) 0 0 here n0 n1 in
     omega arith
 
--- src/lib.rt:468:9
 first-pair-first-pair-requires : (t : ℕ) → first-pair-lts.Need-first-pair-requires (calls t) (first-pair-at t) first-pair.Post
 first-pair-first-pair-requires t c κs =
     let e = c .before in
@@ -172,7 +159,6 @@ first-pair-first-pair-requires t c κs =
     let n1 = e .if2 .left in
     ((let deep = ask.deep w (a .at .0) (a .k) (a .span) 0 0 here n0 n1 in omega (arith, s .pre .0)), (ask.go-left w (a .at .0) (a .k) (a .span) 0 0 here n0 n1 0 (ask.half-pos w (a .at .0) (a .k) (a .span) 0 0 here n0 n1) (omega arith), omega (arith, s .pre .1 .1)))
 
--- src/lib.rt:469:34
 first-pair-sub-first-pair-2 : (t : ℕ) → first-pair-lts.Need-sub-first-pair-2 (calls t) (first-pair-at t) first-pair.Post
 first-pair-sub-first-pair-2 t c =
     let e = c .before .before in
@@ -185,11 +171,9 @@ first-pair-sub-first-pair-2 t c =
     let deep = ask.deep w (a .at .0) (a .k) (a .span) 0 0 here n0 n1 in
     omega arith
 
--- src/lib.rt:469:47
 first-pair-less-requires : (t : ℕ) → first-pair-lts.Need-less-requires (calls t) (first-pair-at t) first-pair.Post
 first-pair-less-requires t c κs = search needs
 
--- src/lib.rt:469:9
 first-pair-first-pair-requires-2 : (t : ℕ) → first-pair-lts.Need-first-pair-requires-2 (calls t) (first-pair-at t) first-pair.Post
 first-pair-first-pair-requires-2 t c κs =
     let e = c .before .before .before in
@@ -201,7 +185,6 @@ first-pair-first-pair-requires-2 t c κs =
     let n1 = e .if2 .left in
     ((let deep = ask.deep w (a .at .0) (a .k) (a .span) 0 0 here n0 n1 in omega (arith, s .pre .0)), (ask.go-right-one w (a .at .0) (a .k) (a .span) 0 0 here n0 n1, omega (arith, s .pre .1 .1)))
 
--- src/lib.rt:470:33
 first-pair-shifted-requires : (t : ℕ) → first-pair-lts.Need-shifted-requires (calls t) (first-pair-at t) first-pair.Post
 first-pair-shifted-requires t c κs =
     let e = c .before .before .before .before in
@@ -210,15 +193,12 @@ first-pair-shifted-requires t c κs =
     let n1 = e .if2 .left in
     (c .first-pair2 .ensures .1, omega (arith, s .pre .1 .1))
 
--- src/lib.rt:470:19
 first-pair-or-else-requires : (t : ℕ) → first-pair-lts.Need-or-else-requires (calls t) (first-pair-at t) first-pair.Post
 first-pair-or-else-requires t c κs = search needs
 
--- src/lib.rt:470:5
 first-pair-or-else-requires-2 : (t : ℕ) → first-pair-lts.Need-or-else-requires-2 (calls t) (first-pair-at t) first-pair.Post
 first-pair-or-else-requires-2 t c κs = search needs
 
--- src/lib.rt:453:1
 first-pair-returns-3 : (t : ℕ) → first-pair-lts.Need-returns-3 (calls t) (first-pair-at t) first-pair.Post
 first-pair-returns-3 t c =
     let e = c .before .before .before .before .before .before .before in

@@ -24,7 +24,6 @@ leaf-of-at t = and 1 leaf-of-kinds.ps (is 1 leaf-of-kinds.ps μ-leaf-of t) leaf-
 abbrev leaf-of-below : ℕ → In 1 leaf-of-kinds.ps
 leaf-of-below t = and 1 leaf-of-kinds.ps (falls 1 leaf-of-kinds.ps _<_ μ-leaf-of t) leaf-of.Pre
 
--- src/lib.rt:348:13
 leaf-of-mul-v :
     (t : ℕ) → leaf-of-lts.Need-mul-v (leaf-of-below t, leaf-of.Post) (leaf-of-at t) leaf-of.Post
 leaf-of-mul-v t c =
@@ -34,7 +33,6 @@ leaf-of-mul-v t c =
     let here = s .pre .1 in
     omega (arith, ask.in-words w (a .at .0) (a .k) (a .span) (a .x) (a .x) here)
 
--- src/lib.rt:348:13
 leaf-of-shared-slice-read-v : (t : ℕ) → leaf-of-lts.Need-shared-slice-read-v (
   leaf-of-below t,
   leaf-of.Post,
@@ -46,7 +44,6 @@ leaf-of-shared-slice-read-v t c =
     let here = s .pre .1 in
     omega (arith, ask.in-words w (a .at .0) (a .k) (a .span) (a .x) (a .x) here)
 
--- src/lib.rt:350:34
 leaf-of-sub-t13 :
     (t : ℕ) → leaf-of-lts.Need-sub-t14 (leaf-of-below t, leaf-of.Post) (leaf-of-at t) leaf-of.Post
 leaf-of-sub-t13 t c =
@@ -54,7 +51,6 @@ leaf-of-sub-t13 t c =
     let here = s .pre .1 in
     omega (arith, here .inside)
 
--- src/lib.rt:350:9
 leaf-of-returns :
     (t : ℕ) → leaf-of-lts.Need-returns (leaf-of-below t, leaf-of.Post) (leaf-of-at t) leaf-of.Post
 leaf-of-returns t c =
@@ -64,7 +60,6 @@ leaf-of-returns t c =
     let here = s .pre .1 in
     (laws.whole-holds w (a .at .0) (a .k) (a .span) (a .x) here false (c .if1 .taken), (omega (arith, here .inside), omega (arith, here .inside)))
 
--- src/lib.rt:353:34
 leaf-of-sub-t14 :
     (t : ℕ) → leaf-of-lts.Need-sub-t15 (leaf-of-below t, leaf-of.Post) (leaf-of-at t) leaf-of.Post
 leaf-of-sub-t14 t c =
@@ -72,7 +67,6 @@ leaf-of-sub-t14 t c =
     let here = s .pre .1 in
     omega (arith, here .inside)
 
--- src/lib.rt:353:9
 leaf-of-returns-2 :
     (t : ℕ) →
     leaf-of-lts.Need-returns-2 (leaf-of-below t, leaf-of.Post) (leaf-of-at t) leaf-of.Post
@@ -83,7 +77,6 @@ leaf-of-returns-2 t c =
     let here = s .pre .1 in
     (laws.whole-holds w (a .at .0) (a .k) (a .span) (a .x) here true (c .if2 .taken), (omega (arith, here .inside), omega (arith, here .inside)))
 
--- src/lib.rt:357:27
 leaf-of-add-leaf-of :
     (t : ℕ) →
     leaf-of-lts.Need-add-t16 (leaf-of-below t, leaf-of.Post) (leaf-of-at t) leaf-of.Post
@@ -97,7 +90,6 @@ leaf-of-add-leaf-of t c =
     let n1 = e .if2 .left in
     omega (arith, ask.in-words w (a .at .0) (a .k) (a .span) (a .x) (a .x) here)
 
--- src/lib.rt:357:34
 leaf-of-sub-leaf-of :
     (t : ℕ) →
     leaf-of-lts.Need-sub-leaf-of (leaf-of-below t, leaf-of.Post) (leaf-of-at t) leaf-of.Post
@@ -112,7 +104,6 @@ leaf-of-sub-leaf-of t c =
     let deep = ask.deep w (a .at .0) (a .k) (a .span) (a .x) (a .x) here n0 n1 in
     omega arith
 
--- src/lib.rt:357:9
 leaf-of-leaf-of-requires : (t : ℕ) → leaf-of-lts.Need-leaf-of-requires (
   leaf-of-below t,
   leaf-of.Post,
@@ -127,7 +118,6 @@ leaf-of-leaf-of-requires t c κs =
     let n1 = e .if2 .left in
     ((let deep = ask.deep w (a .at .0) (a .k) (a .span) (a .x) (a .x) here n0 n1 in omega (arith, s .pre .0)), ask.go-left-one w (a .at .0) (a .k) (a .span) (a .x) (a .x) here n0 n1 (c .if3 .taken))
 
--- src/lib.rt:357:9
 leaf-of-returns-3 :
     (t : ℕ) →
     leaf-of-lts.Need-returns-3 (leaf-of-below t, leaf-of.Post) (leaf-of-at t) leaf-of.Post
@@ -141,7 +131,6 @@ leaf-of-returns-3 t c =
     let n1 = e .if2 .left in
     (λ D h. laws.left-holds w (a .at .0) (a .k) (a .span) (a .x) here n0 n1 (c .before .if3 .taken) D h _ _ (c .leaf-of .ensures .0 D (ask.halves w (a .at .0) (a .k) (a .span) (a .x) (a .x) here n0 n1 D h .left)), (omega (arith, c .leaf-of .ensures .1 .0), omega (arith, c .leaf-of .ensures .1 .1)))
 
--- src/lib.rt:359:29
 leaf-of-cast-leaf-of :
     (t : ℕ) →
     leaf-of-lts.Need-cast-t10 (leaf-of-below t, leaf-of.Post) (leaf-of-at t) leaf-of.Post
@@ -153,7 +142,6 @@ leaf-of-cast-leaf-of t c =
     let n1 = e .if2 .left in
     omega (arith, e .before .before .shared-slice-known2 .given (a .at .0))
 
--- src/lib.rt:359:24
 leaf-of-add-leaf-of-2 :
     (t : ℕ) →
     leaf-of-lts.Need-add-t19 (leaf-of-below t, leaf-of.Post) (leaf-of-at t) leaf-of.Post
@@ -167,7 +155,6 @@ leaf-of-add-leaf-of-2 t c =
     let n1 = e .if2 .left in
     omega (arith, ask.right-in w (a .at .0) (a .k) (a .span) (a .x) (a .x) here n0 n1, s .good .0 .0)
 
--- src/lib.rt:359:24
 leaf-of-sub-leaf-of-2 :
     (t : ℕ) →
     leaf-of-lts.Need-sub-t20 (leaf-of-below t, leaf-of.Post) (leaf-of-at t) leaf-of.Post
@@ -177,7 +164,6 @@ leaf-of-sub-leaf-of-2 t c =
     let n1 = e .if2 .left in
     omega arith
 
--- src/lib.rt:359:46
 leaf-of-sub-leaf-of-3 :
     (t : ℕ) →
     leaf-of-lts.Need-sub-leaf-of-2 (leaf-of-below t, leaf-of.Post) (leaf-of-at t) leaf-of.Post
@@ -192,7 +178,6 @@ leaf-of-sub-leaf-of-3 t c =
     let deep = ask.deep w (a .at .0) (a .k) (a .span) (a .x) (a .x) here n0 n1 in
     omega arith
 
--- src/lib.rt:359:9
 leaf-of-leaf-of-requires-2 : (t : ℕ) → leaf-of-lts.Need-leaf-of-requires-2 (
   leaf-of-below t,
   leaf-of.Post,
@@ -207,7 +192,6 @@ leaf-of-leaf-of-requires-2 t c κs =
     let n1 = e .if2 .left in
     ((let deep = ask.deep w (a .at .0) (a .k) (a .span) (a .x) (a .x) here n0 n1 in omega (arith, s .pre .0)), ask.go-right w (a .at .0) (a .k) (a .span) (a .x) (a .x) here n0 n1 (a .x - a .span / 2) (c .if3 .left) (omega arith))
 
--- src/lib.rt:361:13
 leaf-of-add-t11 :
     (t : ℕ) → leaf-of-lts.Need-add-t12 (leaf-of-below t, leaf-of.Post) (leaf-of-at t) leaf-of.Post
 leaf-of-add-t11 t c =
@@ -217,7 +201,6 @@ leaf-of-add-t11 t c =
     let n1 = e .if2 .left in
     omega (arith, c .before .leaf-of2 .ensures .1, s .fits .span)
 
--- src/lib.rt:362:13
 leaf-of-add-t19 :
     (t : ℕ) → leaf-of-lts.Need-add-t22 (leaf-of-below t, leaf-of.Post) (leaf-of-at t) leaf-of.Post
 leaf-of-add-t19 t c =
@@ -227,7 +210,6 @@ leaf-of-add-t19 t c =
     let n1 = e .if2 .left in
     omega (arith, c .before .before .leaf-of2 .ensures .1, s .fits .span)
 
--- src/lib.rt:342:1
 leaf-of-returns-4 :
     (t : ℕ) →
     leaf-of-lts.Need-returns-4 (leaf-of-below t, leaf-of.Post) (leaf-of-at t) leaf-of.Post

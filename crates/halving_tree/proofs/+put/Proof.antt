@@ -32,7 +32,6 @@ put-at t = and 2 put-kinds.ps (is 2 put-kinds.ps μ-put t) put.Pre
 abbrev put-below : ℕ → In 2 put-kinds.ps
 put-below t = and 2 put-kinds.ps (falls 2 put-kinds.ps _<_ μ-put t) put.Pre
 
--- src/lib.rt:217:9
 put-copy-requires : (t : ℕ) → put-lts.Need-copy-requires (
   copy-reads.Asked,
   copy-reads.Learnt,
@@ -55,7 +54,6 @@ put-copy-requires t c κs =
     let here = s .pre .1 in
     laws.none-room w (a .at .0) (a .n) (a .k) (a .span) (a .lo) (a .hi) (a .b) (length o) (a .to .0) here (c .before .if1 .taken)
 
--- src/lib.rt:218:16
 put-add-result : (t : ℕ) → put-lts.Need-add-t23 (
   copy-reads.Asked,
   copy-reads.Learnt,
@@ -78,7 +76,6 @@ put-add-result t c =
     let here = s .pre .1 in
     omega (arith, laws.none-room w (a .at .0) (a .n) (a .k) (a .span) (a .lo) (a .hi) (a .b) (length o) (a .to .0) here (c .before .before .before .before .if1 .taken), s .good)
 
--- src/lib.rt:218:9
 put-same-length : (t : ℕ) → put-lts.Need-same-length (
   copy-reads.Asked,
   copy-reads.Learnt,
@@ -95,7 +92,6 @@ put-same-length : (t : ℕ) → put-lts.Need-same-length (
 ) (put-at t) put.Post
 put-same-length t c = c .before .before .copy .kept .1 .1 .1 .0
 
--- src/lib.rt:218:9
 put-returns : (t : ℕ) → put-lts.Need-returns (
   copy-reads.Asked,
   copy-reads.Learnt,
@@ -118,7 +114,6 @@ put-returns t c =
     let here = s .pre .1 in
     laws.none-wrote w (a .at .0) (a .n) (a .k) (a .span) (a .lo) (a .hi) (a .b) (length o) (a .to .0) here (c .before .before .before .before .if1 .taken) o _ (c .before .before .copy .ensures)
 
--- src/lib.rt:220:18
 put-after-requires : (t : ℕ) → put-lts.Need-after-requires (
   copy-reads.Asked,
   copy-reads.Learnt,
@@ -138,7 +133,6 @@ put-after-requires t c κs =
     let here = s .pre .1 in
     here .spot
 
--- src/lib.rt:220:9
 put-kind-requires : (t : ℕ) → put-lts.Need-kind-requires (
   copy-reads.Asked,
   copy-reads.Learnt,
@@ -155,7 +149,6 @@ put-kind-requires : (t : ℕ) → put-lts.Need-kind-requires (
 ) (put-at t) put.Post
 put-kind-requires t c κs = search needs
 
--- src/lib.rt:222:9
 put-mul-out : (t : ℕ) → put-lts.Need-mul-out (
   copy-reads.Asked,
   copy-reads.Learnt,
@@ -178,7 +171,6 @@ put-mul-out t c =
     let here = s .pre .1 in
     omega (arith, laws.some-room w (a .at .0) (a .n) (a .k) (a .span) (a .lo) (a .hi) (a .b) (length o) (a .to .0) here, s .good)
 
--- src/lib.rt:222:9
 put-slice-write-out : (t : ℕ) → put-lts.Need-slice-write-out (
   copy-reads.Asked,
   copy-reads.Learnt,
@@ -201,7 +193,6 @@ put-slice-write-out t c =
     let here = s .pre .1 in
     omega (arith, laws.some-room w (a .at .0) (a .n) (a .k) (a .span) (a .lo) (a .hi) (a .b) (length o) (a .to .0) here)
 
--- src/lib.rt:223:16
 put-add-result-2 : (t : ℕ) → put-lts.Need-add-t25 (
   copy-reads.Asked,
   copy-reads.Learnt,
@@ -224,7 +215,6 @@ put-add-result-2 t c =
     let here = s .pre .1 in
     omega (arith, laws.some-room w (a .at .0) (a .n) (a .k) (a .span) (a .lo) (a .hi) (a .b) (length o) (a .to .0) here, s .good)
 
--- src/lib.rt:223:9
 put-same-length-2 : (t : ℕ) → put-lts.Need-same-length-2 (
   copy-reads.Asked,
   copy-reads.Learnt,
@@ -241,7 +231,6 @@ put-same-length-2 : (t : ℕ) → put-lts.Need-same-length-2 (
 ) (put-at t) put.Post
 put-same-length-2 t c = search needs
 
--- src/lib.rt:223:9
 put-returns-2 : (t : ℕ) → put-lts.Need-returns-2 (
   copy-reads.Asked,
   copy-reads.Learnt,
@@ -264,7 +253,6 @@ put-returns-2 t c =
     let here = s .pre .1 in
     λ D h. laws.leaf-wrote w (a .at .0) (a .n) (a .k) (a .span) (a .lo) (a .hi) (a .b) (length o) (a .to .0) here (c .before .kind .result) (c .if2 .taken) D (c .before .kind .ensures ∙ ap kindOf (c .before .before .after .ensures D h)) o
 
--- src/lib.rt:226:9
 put-halves-requires : (t : ℕ) → put-lts.Need-halves-requires (
   copy-reads.Asked,
   copy-reads.Learnt,
@@ -290,7 +278,6 @@ put-halves-requires t c κs =
     let deep = laws.mixed-deep (a .k) (paint (a .b) (a .lo) (a .hi) S) (two S (here .spot .laid)) in
     alaws.as-sub w (a .at .0) (a .n) (a .k) (a .span) (a .lo) (a .hi) (here .spot) deep
 
--- src/lib.rt:227:9
 put-parted-requires : (t : ℕ) → put-lts.Need-parted-requires (
   copy-reads.Asked,
   copy-reads.Learnt,
@@ -316,7 +303,6 @@ put-parted-requires t c κs =
     let deep = laws.mixed-deep (a .k) (paint (a .b) (a .lo) (a .hi) S) (two S (here .spot .laid)) in
     alaws.half-pos w (a .at .0) (a .n) (a .k) (a .span) (a .lo) (a .hi) (here .spot) deep
 
--- src/lib.rt:228:32
 put-sub-put : (t : ℕ) → put-lts.Need-sub-put (
   copy-reads.Asked,
   copy-reads.Learnt,
@@ -341,7 +327,6 @@ put-sub-put t c =
     let deep = laws.mixed-deep (a .k) (paint (a .b) (a .lo) (a .hi) S) (two S (here .spot .laid)) in
     omega arith
 
--- src/lib.rt:228:67
 put-add-put : (t : ℕ) → put-lts.Need-add-out (
   copy-reads.Asked,
   copy-reads.Learnt,
@@ -368,7 +353,6 @@ put-add-put t c =
     let deep = laws.mixed-deep (a .k) (paint (a .b) (a .lo) (a .hi) S) (two S (here .spot .laid)) in
     omega (arith, laws.some-room w (a .at .0) (a .n) (a .k) (a .span) (a .lo) (a .hi) (a .b) (length o) (a .to .0) here, s .good)
 
--- src/lib.rt:228:9
 put-put-requires : (t : ℕ) → put-lts.Need-put-requires (
   copy-reads.Asked,
   copy-reads.Learnt,
@@ -398,7 +382,6 @@ put-put-requires t c κs =
     let r = g .parted .result in
     (omega (arith, s .pre .0), laws.left-fill w (a .at .0) (a .n) (a .k) (a .span) (a .lo) (a .hi) (a .b) (length o) (a .to .0) here deep (h .lp .0) (h .ln) (h .rp .0) (h .rn) (g .before .halves .ensures) (r .llo) (r .lhi) (r .rlo) (r .rhi) (g .parted .ensures) (two S (here .spot .laid)))
 
--- src/lib.rt:229:15
 put-sub-out : (t : ℕ) → put-lts.Need-sub-out (
   copy-reads.Asked,
   copy-reads.Learnt,
@@ -432,7 +415,6 @@ put-sub-out t c =
     let few = laws.left-few w (a .at .0) (a .n) (a .k) (a .span) (a .lo) (a .hi) (a .b) (length o) (a .to .0) here deep (h .lp .0) (h .ln) (h .rp .0) (h .rn) (g .before .halves .ensures) (r .llo) (r .lhi) (r .rlo) (r .rhi) (g .parted .ensures) (two S (here .spot .laid)) in
     omega (arith, x .next)
 
--- src/lib.rt:229:15
 put-add-out : (t : ℕ) → put-lts.Need-add-out-2 (
   copy-reads.Asked,
   copy-reads.Learnt,
@@ -466,7 +448,6 @@ put-add-out t c =
     let few = laws.left-few w (a .at .0) (a .n) (a .k) (a .span) (a .lo) (a .hi) (a .b) (length o) (a .to .0) here deep (h .lp .0) (h .ln) (h .rp .0) (h .rn) (g .before .halves .ensures) (r .llo) (r .lhi) (r .rlo) (r .rhi) (g .parted .ensures) (two S (here .spot .laid)) in
     omega (arith, x .next)
 
--- src/lib.rt:229:14
 put-cast-out : (t : ℕ) → put-lts.Need-cast-out (
   copy-reads.Asked,
   copy-reads.Learnt,
@@ -500,7 +481,6 @@ put-cast-out t c =
     let few = laws.left-few w (a .at .0) (a .n) (a .k) (a .span) (a .lo) (a .hi) (a .b) (length o) (a .to .0) here deep (h .lp .0) (h .ln) (h .rp .0) (h .rn) (g .before .halves .ensures) (r .llo) (r .lhi) (r .rlo) (r .rhi) (g .parted .ensures) (two S (here .spot .laid)) in
     omega (arith, x .next)
 
--- src/lib.rt:229:5
 put-mul-out-2 : (t : ℕ) → put-lts.Need-mul-out-2 (
   copy-reads.Asked,
   copy-reads.Learnt,
@@ -534,7 +514,6 @@ put-mul-out-2 t c =
     let few = laws.left-few w (a .at .0) (a .n) (a .k) (a .span) (a .lo) (a .hi) (a .b) (length o) (a .to .0) here deep (h .lp .0) (h .ln) (h .rp .0) (h .rn) (g .before .halves .ensures) (r .llo) (r .lhi) (r .rlo) (r .rhi) (g .parted .ensures) (two S (here .spot .laid)) in
     omega (arith, laws.some-room w (a .at .0) (a .n) (a .k) (a .span) (a .lo) (a .hi) (a .b) (length o) (a .to .0) here, s .good)
 
--- src/lib.rt:229:5
 put-slice-write-out-2 : (t : ℕ) → put-lts.Need-slice-write-out-2 (
   copy-reads.Asked,
   copy-reads.Learnt,
@@ -568,7 +547,6 @@ put-slice-write-out-2 t c =
     let few = laws.left-few w (a .at .0) (a .n) (a .k) (a .span) (a .lo) (a .hi) (a .b) (length o) (a .to .0) here deep (h .lp .0) (h .ln) (h .rp .0) (h .rn) (g .before .halves .ensures) (r .llo) (r .lhi) (r .rlo) (r .rhi) (g .parted .ensures) (two S (here .spot .laid)) in
     omega (arith, laws.some-room w (a .at .0) (a .n) (a .k) (a .span) (a .lo) (a .hi) (a .b) (length o) (a .to .0) here, u .kept .1 .1 .1 .1 .1 .1 .1 .1 .0)
 
--- src/lib.rt:230:24
 put-sub-put-2 : (t : ℕ) → put-lts.Need-sub-put-2 (
   copy-reads.Asked,
   copy-reads.Learnt,
@@ -602,7 +580,6 @@ put-sub-put-2 t c =
     let few = laws.left-few w (a .at .0) (a .n) (a .k) (a .span) (a .lo) (a .hi) (a .b) (length o) (a .to .0) here deep (h .lp .0) (h .ln) (h .rp .0) (h .rn) (g .before .halves .ensures) (r .llo) (r .lhi) (r .rlo) (r .rhi) (g .parted .ensures) (two S (here .spot .laid)) in
     omega arith
 
--- src/lib.rt:230:5
 put-put-requires-2 : (t : ℕ) → put-lts.Need-put-requires-2 (
   copy-reads.Asked,
   copy-reads.Learnt,
@@ -636,7 +613,6 @@ put-put-requires-2 t c κs =
     let few = laws.left-few w (a .at .0) (a .n) (a .k) (a .span) (a .lo) (a .hi) (a .b) (length o) (a .to .0) here deep (h .lp .0) (h .ln) (h .rp .0) (h .rn) (g .before .halves .ensures) (r .llo) (r .lhi) (r .rlo) (r .rhi) (g .parted .ensures) (two S (here .spot .laid)) in
     (omega (arith, s .pre .0), subst (λ (l : ℕ). Fill w (h .rp .0) (h .rn) (a .k - 1) (a .span / 2) (r .rlo) (r .rhi) (a .b) l (u .result .0)) (sym (length-set (u .last .1 .1 .1 .1 .1 .1 .1 .1 .0) (a .to .0) (u .result .0 - a .to .0 + 1) ∙ u .kept .1 .1 .1 .1 .1 .1 .1 .1 .0)) (laws.right-fill w (a .at .0) (a .n) (a .k) (a .span) (a .lo) (a .hi) (a .b) (length o) (a .to .0) here deep (h .lp .0) (h .ln) (h .rp .0) (h .rn) (g .before .halves .ensures) (r .llo) (r .lhi) (r .rlo) (r .rhi) (g .parted .ensures) (two S (here .spot .laid)) (u .result .0) (x .next)))
 
--- src/lib.rt:212:1
 put-same-length-3 : (t : ℕ) → put-lts.Need-same-length-3 (
   copy-reads.Asked,
   copy-reads.Learnt,
@@ -658,7 +634,6 @@ put-same-length-3 t c =
     let u = c .before .before .before .before .before .before .put in
     c .before .before .put2 .kept .1 .1 .1 .1 .1 .1 .1 .1 .0 ∙ length-set (u .last .1 .1 .1 .1 .1 .1 .1 .1 .0) (a .to .0) (u .result .0 - a .to .0 + 1) ∙ u .kept .1 .1 .1 .1 .1 .1 .1 .1 .0
 
--- src/lib.rt:212:1
 put-returns-3 : (t : ℕ) → put-lts.Need-returns-3 (
   copy-reads.Asked,
   copy-reads.Learnt,

@@ -24,73 +24,59 @@ valid-at t = and 1 valid-kinds.ps (is 1 valid-kinds.ps μ-valid t) valid.Pre
 abbrev valid-below : ℕ → In 1 valid-kinds.ps
 valid-below t = and 1 valid-kinds.ps (falls 1 valid-kinds.ps _<_ μ-valid t) valid.Pre
 
--- src/lib.rt:18:9
 valid-returns :
     (t : ℕ) → valid-lts.Need-returns (valid-below t, valid.Post) (valid-at t) valid.Post
 valid-returns t c = let a = c .before .before .args in let w = now (a .w) in laws.bad-end w (a .at .0) (a .k) (c .if1 .taken)
 
--- src/lib.rt:20:13
 valid-mul-v : (t : ℕ) → valid-lts.Need-mul-v (valid-below t, valid.Post) (valid-at t) valid.Post
 valid-mul-v t c = search needs
 
--- src/lib.rt:20:13
 valid-shared-slice-read-v : (t : ℕ) → valid-lts.Need-shared-slice-read-v (
   valid-below t,
   valid.Post,
 ) (valid-at t) valid.Post
 valid-shared-slice-read-v t c = search needs
 
--- src/lib.rt:22:9
 valid-returns-2 :
     (t : ℕ) → valid-lts.Need-returns-2 (valid-below t, valid.Post) (valid-at t) valid.Post
 valid-returns-2 t c = let a = c .before .before .before .before .args in let w = now (a .w) in laws.good-leaf w (a .at .0) (a .k) (c .before .before .if1 .left) (c .if2 .taken)
 
--- src/lib.rt:25:9
 valid-returns-3 :
     (t : ℕ) → valid-lts.Need-returns-3 (valid-below t, valid.Post) (valid-at t) valid.Post
 valid-returns-3 t c = let a = c .before .before .before .before .before .args in let w = now (a .w) in laws.bad-flat w (a .at .0) (a .k) (c .if3 .taken) (c .before .if2 .left)
 
--- src/lib.rt:27:34
 valid-add-valid :
     (t : ℕ) → valid-lts.Need-add-if4 (valid-below t, valid.Post) (valid-at t) valid.Post
 valid-add-valid t c = search needs
 
--- src/lib.rt:27:41
 valid-sub-valid :
     (t : ℕ) → valid-lts.Need-sub-valid (valid-below t, valid.Post) (valid-at t) valid.Post
 valid-sub-valid t c = search needs
 
--- src/lib.rt:27:25
 valid-valid-requires :
     (t : ℕ) → valid-lts.Need-valid-requires (valid-below t, valid.Post) (valid-at t) valid.Post
 valid-valid-requires t c κs = search needs
 
--- src/lib.rt:27:20
 valid-enum-known-l :
     (t : ℕ) → valid-lts.Need-enum-known-l (valid-below t, valid.Post) (valid-at t) valid.Post
 valid-enum-known-l t c = search needs
 
--- src/lib.rt:28:9
 valid-enum-told :
     (t : ℕ) → valid-lts.Need-enum-told (valid-below t, valid.Post) (valid-at t) valid.Post
 valid-enum-told t c = search needs
 
--- src/lib.rt:28:9
 valid-returns-4 :
     (t : ℕ) → valid-lts.Need-returns-4 (valid-below t, valid.Post) (valid-at t) valid.Post
 valid-returns-4 t c = let a = c .before .before .before .before .before .before .before .before .args in let w = now (a .w) in laws.bad-left w (a .at .0) (a .k) (c .before .before .before .if3 .left) (c .before .before .before .before .if2 .left) (subst (Saw w (a .at .0 + 1) (a .k - 1)) (c .enum-told .given .1) (c .before .before .valid .ensures))
 
--- src/lib.rt:30:8
 valid-add-if4 :
     (t : ℕ) → valid-lts.Need-add-if4-2 (valid-below t, valid.Post) (valid-at t) valid.Post
 valid-add-if4 t c = let a = c .before .before .before .before .before .before .before .before .before .args in let w = now (a .w) in omega (arith, laws.seen-room w (a .at .0 + 1) (a .k - 1) (c .before .l .given .0 .0) (subst (Saw w (a .at .0 + 1) (a .k - 1)) (c .before .l .given .1) (c .before .before .before .valid .ensures)))
 
--- src/lib.rt:30:17
 valid-cast-if4 :
     (t : ℕ) → valid-lts.Need-cast-if4 (valid-below t, valid.Post) (valid-at t) valid.Post
 valid-cast-if4 t c = let a = c .before .before .before .before .before .before .before .before .before .args in let w = now (a .w) in omega (arith, c .before .before .before .before .before .before .shared-slice-known2 .given (a .at .0))
 
--- src/lib.rt:31:9
 valid-returns-5 :
     (t : ℕ) → valid-lts.Need-returns-5 (valid-below t, valid.Post) (valid-at t) valid.Post
 valid-returns-5 t c =
@@ -103,12 +89,10 @@ valid-returns-5 t c =
     let two = k .before .before .before .before .before .if2 .left in
     laws.bad-size w (a .at .0) (a .k) ne two l sl (c .if4 .taken)
 
--- src/lib.rt:33:34
 valid-add-valid-2 :
     (t : ℕ) → valid-lts.Need-add-x (valid-below t, valid.Post) (valid-at t) valid.Post
 valid-add-valid-2 t c = search needs
 
--- src/lib.rt:33:34
 valid-add-valid-3 :
     (t : ℕ) → valid-lts.Need-add-x-2 (valid-below t, valid.Post) (valid-at t) valid.Post
 valid-add-valid-3 t c =
@@ -120,27 +104,22 @@ valid-add-valid-3 t c =
     let two = k .before .before .before .before .before .if2 .left in
     omega (arith, laws.seen-room w (a .at .0 + 1) (a .k - 1) l sl)
 
--- src/lib.rt:33:45
 valid-sub-valid-2 :
     (t : ℕ) → valid-lts.Need-sub-valid-2 (valid-below t, valid.Post) (valid-at t) valid.Post
 valid-sub-valid-2 t c = search needs
 
--- src/lib.rt:33:25
 valid-valid-requires-2 :
     (t : ℕ) → valid-lts.Need-valid-requires-2 (valid-below t, valid.Post) (valid-at t) valid.Post
 valid-valid-requires-2 t c κs = search needs
 
--- src/lib.rt:33:20
 valid-enum-known-r :
     (t : ℕ) → valid-lts.Need-enum-known-r (valid-below t, valid.Post) (valid-at t) valid.Post
 valid-enum-known-r t c = search needs
 
--- src/lib.rt:34:9
 valid-enum-told-2 :
     (t : ℕ) → valid-lts.Need-enum-told-2 (valid-below t, valid.Post) (valid-at t) valid.Post
 valid-enum-told-2 t c = search needs
 
--- src/lib.rt:34:9
 valid-returns-6 :
     (t : ℕ) → valid-lts.Need-returns-6 (valid-below t, valid.Post) (valid-at t) valid.Post
 valid-returns-6 t c =
@@ -153,15 +132,12 @@ valid-returns-6 t c =
     let two = k .before .before .before .before .before .if2 .left in
     laws.bad-right w (a .at .0) (a .k) ne two l sl (subst (Saw w (a .at .0 + 1 + l) (a .k - 1)) (c .enum-told2 .given .1) (c .before .before .valid2 .ensures))
 
--- src/lib.rt:36:15
 valid-add-x : (t : ℕ) → valid-lts.Need-add-x-3 (valid-below t, valid.Post) (valid-at t) valid.Post
 valid-add-x t c = search needs
 
--- src/lib.rt:36:13
 valid-mul-x : (t : ℕ) → valid-lts.Need-mul-x (valid-below t, valid.Post) (valid-at t) valid.Post
 valid-mul-x t c = search needs
 
--- src/lib.rt:36:13
 valid-shared-slice-read-x : (t : ℕ) → valid-lts.Need-shared-slice-read-x (
   valid-below t,
   valid.Post,
@@ -177,11 +153,9 @@ valid-shared-slice-read-x t c =
     let sr = subst (Saw w (a .at .0 + 1 + l) (a .k - 1)) (g .before .r .given .1) (g .before .before .before .valid2 .ensures) in
     omega (arith, laws.seen-room w (a .at .0 + 1 + l) (a .k - 1) r sr, laws.seen-pos w (a .at .0 + 1 + l) (a .k - 1) r sr)
 
--- src/lib.rt:37:15
 valid-add-y : (t : ℕ) → valid-lts.Need-add-y (valid-below t, valid.Post) (valid-at t) valid.Post
 valid-add-y t c = search needs
 
--- src/lib.rt:37:15
 valid-add-y-2 :
     (t : ℕ) → valid-lts.Need-add-y-2 (valid-below t, valid.Post) (valid-at t) valid.Post
 valid-add-y-2 t c =
@@ -195,7 +169,6 @@ valid-add-y-2 t c =
     let sr = subst (Saw w (a .at .0 + 1 + l) (a .k - 1)) (g .before .r .given .1) (g .before .before .before .valid2 .ensures) in
     omega (arith, laws.seen-room w (a .at .0 + 1 + l) (a .k - 1) r sr, k .before .before .before .before .before .before .before .before .before .good .0 .0)
 
--- src/lib.rt:37:13
 valid-mul-y : (t : ℕ) → valid-lts.Need-mul-y (valid-below t, valid.Post) (valid-at t) valid.Post
 valid-mul-y t c =
     let k = c .before .before .before .before .before .before in
@@ -208,7 +181,6 @@ valid-mul-y t c =
     let sr = subst (Saw w (a .at .0 + 1 + l) (a .k - 1)) (g .before .r .given .1) (g .before .before .before .valid2 .ensures) in
     omega (arith, laws.seen-room w (a .at .0 + 1 + l) (a .k - 1) r sr, laws.seen-pos w (a .at .0 + 1 + l) (a .k - 1) r sr, k .before .before .before .before .before .before .before .before .before .good .0 .0, k .before .before .before .before .before .before .before .before .before .good .0 .1)
 
--- src/lib.rt:37:13
 valid-shared-slice-read-y : (t : ℕ) → valid-lts.Need-shared-slice-read-y (
   valid-below t,
   valid.Post,
@@ -224,7 +196,6 @@ valid-shared-slice-read-y t c =
     let sr = subst (Saw w (a .at .0 + 1 + l) (a .k - 1)) (g .before .r .given .1) (g .before .before .before .valid2 .ensures) in
     omega (arith, laws.seen-room w (a .at .0 + 1 + l) (a .k - 1) r sr, laws.seen-pos w (a .at .0 + 1 + l) (a .k - 1) r sr)
 
--- src/lib.rt:40:13
 valid-returns-7 :
     (t : ℕ) → valid-lts.Need-returns-7 (valid-below t, valid.Post) (valid-at t) valid.Post
 valid-returns-7 t c =
@@ -237,7 +208,6 @@ valid-returns-7 t c =
     let two = k .before .before .before .before .before .if2 .left in
     laws.bad-twins w (a .at .0) (a .k) ne two l sl (c .before .if5 .taken) (c .if6 .taken)
 
--- src/lib.rt:43:16
 valid-add-t9 : (t : ℕ) → valid-lts.Need-add-t10 (valid-below t, valid.Post) (valid-at t) valid.Post
 valid-add-t9 t c =
     let k = c .before .before .before .before .before .before .before .before in
@@ -250,7 +220,6 @@ valid-add-t9 t c =
     let sr = subst (Saw w (a .at .0 + 1 + l) (a .k - 1)) (g .before .r .given .1) (g .before .before .before .valid2 .ensures) in
     omega (arith, laws.seen-room w (a .at .0 + 1 + l) (a .k - 1) r sr)
 
--- src/lib.rt:43:16
 valid-add-t14 :
     (t : ℕ) → valid-lts.Need-add-t16 (valid-below t, valid.Post) (valid-at t) valid.Post
 valid-add-t14 t c =
@@ -264,7 +233,6 @@ valid-add-t14 t c =
     let sr = subst (Saw w (a .at .0 + 1 + l) (a .k - 1)) (g .before .r .given .1) (g .before .before .before .valid2 .ensures) in
     omega (arith, laws.seen-room w (a .at .0 + 1 + l) (a .k - 1) r sr)
 
--- src/lib.rt:14:1
 valid-returns-8 :
     (t : ℕ) → valid-lts.Need-returns-8 (valid-below t, valid.Post) (valid-at t) valid.Post
 valid-returns-8 t c =

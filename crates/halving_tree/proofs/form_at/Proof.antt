@@ -10,7 +10,6 @@ use Rattle.halving_tree.proofs.form_at.Tie as tie
 use Rattle.halving_tree.proofs.form_at.Reads as reads
 use Rattle.halving_tree.proofs.form_at.Lts as lts
 
--- src/lib.rt:124:13
 mul-v : tie.Need-mul-v
 mul-v c =
     let s = c in
@@ -19,7 +18,6 @@ mul-v c =
     let here = s .pre .0 in
     omega (arith, base.at-in w (a .at .0) (here .tree) (here .laid))
 
--- src/lib.rt:124:13
 shared-slice-read-v : tie.Need-shared-slice-read-v
 shared-slice-read-v c =
     let s = c .before in
@@ -28,7 +26,6 @@ shared-slice-read-v c =
     let here = s .pre .0 in
     omega (arith, base.at-in w (a .at .0) (here .tree) (here .laid))
 
--- src/lib.rt:126:9
 returns : tie.Need-returns
 returns c =
     let s = c .before .before in
@@ -36,7 +33,6 @@ returns c =
     let w = now (a .w) in
     laws.form-leaf w (a .at .0) false (c .if1 .taken)
 
--- src/lib.rt:129:9
 returns-2 : tie.Need-returns-2
 returns-2 c =
     let s = c .before .before .before in
@@ -44,11 +40,9 @@ returns-2 c =
     let w = now (a .w) in
     laws.form-leaf w (a .at .0) true (c .if2 .taken)
 
--- src/lib.rt:131:17
 cast-t7 : tie.Need-cast-t8
 cast-t7 c = search needs
 
--- src/lib.rt:120:1
 returns-3 : tie.Need-returns-3
 returns-3 c =
     let s = c .before .before .before in

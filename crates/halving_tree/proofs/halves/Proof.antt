@@ -11,7 +11,6 @@ use Rattle.halving_tree.proofs.halves.Tie as tie
 use Rattle.halving_tree.proofs.halves.Reads as reads
 use Rattle.halving_tree.proofs.halves.Lts as lts
 
--- src/lib.rt:139:13
 mul-v : tie.Need-mul-v
 mul-v c =
     let s = c in
@@ -20,7 +19,6 @@ mul-v c =
     let here = s .pre in
     omega (arith, base.at-in w (a .at .0) (treeOf (a .k) (here .set)) (here .laid))
 
--- src/lib.rt:139:13
 shared-slice-read-v : tie.Need-shared-slice-read-v
 shared-slice-read-v c =
     let s = c .before in
@@ -29,14 +27,12 @@ shared-slice-read-v c =
     let here = s .pre in
     omega (arith, base.at-in w (a .at .0) (treeOf (a .k) (here .set)) (here .laid))
 
--- src/lib.rt:139:13
 cast-v : tie.Need-cast-v
 cast-v c =
     let s = c .before in
     let a = s .args in
     omega (arith, c .shared-slice-known .given (a .at .0))
 
--- src/lib.rt:141:9
 returns : tie.Need-returns
 returns c =
     let s = c .before .before in
@@ -45,7 +41,6 @@ returns c =
     let here = s .pre in
     laws.halved-leaf w (a .at .0) (a .n) (a .k) here (c .if1 .taken)
 
--- src/lib.rt:143:16
 add-t6 : tie.Need-add-t7
 add-t6 c =
     let s = c .before .before in
@@ -54,7 +49,6 @@ add-t6 c =
     let here = s .pre in
     omega (arith, laws.node-room w (a .at .0) (a .n) (a .k) here (c .if1 .left), base.at-in w (a .at .0) (treeOf (a .k) (here .set)) (here .laid), s .good .0 .0)
 
--- src/lib.rt:143:38
 add-t11 : tie.Need-add-t13
 add-t11 c =
     let s = c .before .before in
@@ -63,11 +57,9 @@ add-t11 c =
     let here = s .pre in
     omega (arith, laws.node-room w (a .at .0) (a .n) (a .k) here (c .if1 .left), base.at-in w (a .at .0) (treeOf (a .k) (here .set)) (here .laid), s .good .0 .0)
 
--- src/lib.rt:143:38
 sub-t12 : tie.Need-sub-t14
 sub-t12 c = search needs
 
--- src/lib.rt:143:53
 add-t13 : tie.Need-add-t16
 add-t13 c =
     let s = c .before .before in
@@ -76,7 +68,6 @@ add-t13 c =
     let here = s .pre in
     omega (arith, laws.node-room w (a .at .0) (a .n) (a .k) here (c .if1 .left), base.at-in w (a .at .0) (treeOf (a .k) (here .set)) (here .laid), s .good .0 .0)
 
--- src/lib.rt:143:53
 sub-t14 : tie.Need-sub-t17
 sub-t14 c =
     let s = c .before .before in
@@ -85,7 +76,6 @@ sub-t14 c =
     let here = s .pre in
     omega (arith, laws.node-room w (a .at .0) (a .n) (a .k) here (c .if1 .left), base.at-in w (a .at .0) (treeOf (a .k) (here .set)) (here .laid), s .good .0 .0)
 
--- src/lib.rt:135:1
 returns-2 : tie.Need-returns-2
 returns-2 c =
     let s = c .before .before in

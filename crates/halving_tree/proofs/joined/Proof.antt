@@ -8,111 +8,84 @@ use Rattle.halving_tree.proofs.joined.Tie as tie
 use Rattle.halving_tree.proofs.joined.Reads as reads
 use Rattle.halving_tree.proofs.joined.Lts as lts
 
--- src/lib.rt:101:22
 enum-told : tie.Need-enum-told
 enum-told c = search needs
 
--- src/lib.rt:102:26
 enum-told-2 : tie.Need-enum-told-2
 enum-told-2 c = search needs
 
--- src/lib.rt:103:25
 enum-told-3 : tie.Need-enum-told-3
 enum-told-3 c = search needs
 
--- src/lib.rt:104:25
 enum-known-r : tie.Need-enum-known-r
 enum-known-r c = search needs
 
--- src/lib.rt:104:43
 add-t9 : tie.Need-add-t9
 add-t9 c = omega (arith, ap splitsOf (c .before .r .given .1))
 
--- src/lib.rt:106:21
 enum-told-4 : tie.Need-enum-told-4
 enum-told-4 c = search needs
 
--- src/lib.rt:107:26
 enum-told-5 : tie.Need-enum-told-5
 enum-told-5 c = search needs
 
--- src/lib.rt:108:25
 enum-told-6 : tie.Need-enum-told-6
 enum-told-6 c = search needs
 
--- src/lib.rt:109:25
 enum-known-r-2 : tie.Need-enum-known-r-2
 enum-known-r-2 c = search needs
 
--- src/lib.rt:109:43
 add-t11 : tie.Need-add-t11
 add-t11 c = omega (arith, ap splitsOf (c .before .r2 .given .1))
 
--- src/lib.rt:111:21
 enum-known-l : tie.Need-enum-known-l
 enum-known-l c = search needs
 
--- src/lib.rt:112:38
 enum-told-7 : tie.Need-enum-told-7
 enum-told-7 c = search needs
 
--- src/lib.rt:112:38
 add-t13 : tie.Need-add-t13
 add-t13 c = omega (arith, ap splitsOf (c .before .before .before .l .given .1))
 
--- src/lib.rt:113:37
 enum-told-8 : tie.Need-enum-told-8
 enum-told-8 c = search needs
 
--- src/lib.rt:113:37
 add-t14 : tie.Need-add-t14
 add-t14 c = omega (arith, ap splitsOf (c .before .before .before .l .given .1))
 
--- src/lib.rt:114:25
 enum-known-r-3 : tie.Need-enum-known-r-3
 enum-known-r-3 c = search needs
 
--- src/lib.rt:114:43
 add-t15 : tie.Need-add-t15
 add-t15 c = omega (arith, ap splitsOf (c .before .r3 .given .1), ap splitsOf (c .before .before .before .before .l .given .1))
 
--- src/lib.rt:114:43
 add-t16 : tie.Need-add-t16
 add-t16 c = omega (arith, ap splitsOf (c .before .r3 .given .1), ap splitsOf (c .before .before .before .before .l .given .1))
 
--- src/lib.rt:96:1
 returns : tie.Need-returns
 returns c = search needs
 
--- src/lib.rt:96:1
 returns-2 : tie.Need-returns-2
 returns-2 c = search needs
 
--- src/lib.rt:96:1
 returns-3 : tie.Need-returns-3
 returns-3 c = sym (ap₂ joinForm (c .before .before .before .enum-told .given .1) (c .before .r .given .1))
 
--- src/lib.rt:96:1
 returns-4 : tie.Need-returns-4
 returns-4 c = search needs
 
--- src/lib.rt:96:1
 returns-5 : tie.Need-returns-5
 returns-5 c = search needs
 
--- src/lib.rt:96:1
 returns-6 : tie.Need-returns-6
 returns-6 c = sym (ap₂ joinForm (c .before .before .before .enum-told4 .given .1) (c .before .r2 .given .1))
 
--- src/lib.rt:96:1
 returns-7 : tie.Need-returns-7
 returns-7 c = sym (ap₂ joinForm (c .before .before .before .l .given .1) (c .enum-told7 .given .1))
 
--- src/lib.rt:96:1
 returns-8 : tie.Need-returns-8
 returns-8 c = sym (ap₂ joinForm (c .before .before .before .l .given .1) (c .enum-told8 .given .1))
 
--- src/lib.rt:96:1
 returns-9 : tie.Need-returns-9
 returns-9 c = sym (ap₂ joinForm (c .before .before .before .before .l .given .1) (c .before .r3 .given .1))
 

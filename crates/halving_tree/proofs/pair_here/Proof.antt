@@ -7,41 +7,33 @@ use Rattle.halving_tree.proofs.pair_here.Tie as tie
 use Rattle.halving_tree.proofs.pair_here.Reads as reads
 use Rattle.halving_tree.proofs.pair_here.Lts as lts
 
--- src/lib.rt:435:9
 returns : tie.Need-returns
 returns c =
     let a = c .before .args in
     λ l u hl hu. laws.none-late (now (a .w)) (a .l .0) (a .r .0) (a .from) (a .last) l u hl hu (c .if1 .taken)
 
--- src/lib.rt:437:12
 mul-if2 : tie.Need-mul-if2
 mul-if2 c = search needs
 
--- src/lib.rt:437:12
 shared-slice-read-if2 : tie.Need-shared-slice-read-if2
 shared-slice-read-if2 c = search needs
 
--- src/lib.rt:438:9
 returns-2 : tie.Need-returns-2
 returns-2 c =
     let a = c .before .before .before .args in
     λ l u hl hu. laws.none-left (now (a .w)) (a .l .0) (a .r .0) (a .from) (a .last) l u hl hu (c .if2 .taken)
 
--- src/lib.rt:440:12
 mul-if3 : tie.Need-mul-if3
 mul-if3 c = search needs
 
--- src/lib.rt:440:12
 shared-slice-read-if3 : tie.Need-shared-slice-read-if3
 shared-slice-read-if3 c = search needs
 
--- src/lib.rt:441:9
 returns-3 : tie.Need-returns-3
 returns-3 c =
     let a = c .before .before .before .before .before .args in
     λ l u hl hu. laws.none-right (now (a .w)) (a .l .0) (a .r .0) (a .from) (a .last) l u hl hu (c .if3 .taken)
 
--- src/lib.rt:430:1
 returns-4 : tie.Need-returns-4
 returns-4 c =
     let a = c .before .before .before .before .before .args in

@@ -8,33 +8,27 @@ use Rattle.halving_tree.proofs.shifted.Tie as tie
 use Rattle.halving_tree.proofs.shifted.Reads as reads
 use Rattle.halving_tree.proofs.shifted.Lts as lts
 
--- src/lib.rt:424:27
 enum-told : tie.Need-enum-told
 enum-told c = search needs
 
--- src/lib.rt:425:21
 enum-known-f : tie.Need-enum-known-f
 enum-known-f c = search needs
 
--- src/lib.rt:425:42
 add-t6 : tie.Need-add-t6
 add-t6 c =
     let s = c .before .before .before in
     let b = subst (λ x. Below x (s .args .m)) (c .before .f .given .1) (s .pre .0) in
     omega (arith, b .0, b .1, s .pre .1)
 
--- src/lib.rt:425:49
 add-t7 : tie.Need-add-t7
 add-t7 c =
     let s = c .before .before .before in
     let b = subst (λ x. Below x (s .args .m)) (c .before .f .given .1) (s .pre .0) in
     omega (arith, b .0, b .1, s .pre .1)
 
--- src/lib.rt:419:1
 returns : tie.Need-returns
 returns c = search needs
 
--- src/lib.rt:419:1
 returns-2 : tie.Need-returns-2
 returns-2 c = sym (ap (λ x. moved x (c .before .before .before .args .m)) (c .before .f .given .1))
 

@@ -16,51 +16,39 @@ Inv-loop column₀ different i₀ column i = (1 ≤ different) × (different ≤
 abbrev μ-loop : tie.MeasureT-loop
 μ-loop column₀ different i₀ column i = length column₀ - i
 
--- src/main.rt:43:9
 returns : tie.Need-returns Inv-loop μ-loop
 returns c = search needs
 
--- src/main.rt:46:9
 returns-2 : tie.Need-returns-2 Inv-loop μ-loop
 returns-2 c = search needs
 
--- src/main.rt:49:5
 loop-holds : tie.Need-loop-holds Inv-loop μ-loop
 loop-holds c = omega arith
 
--- src/main.rt:50:22
 rem-column : tie.Need-rem-column Inv-loop μ-loop
 rem-column c = omega arith
 
--- src/main.rt:50:21
 cast-column : tie.Need-cast-column Inv-loop μ-loop
 cast-column c = omega (arith, mod-lt (c .before .loop .i) {m = c .before .before .before .before .args .different} (omega arith))
 
--- src/main.rt:50:9
 mul-t8 : tie.Need-mul-t8 Inv-loop μ-loop
 mul-t8 c = search needs
 
--- src/main.rt:50:9
 slice-set-from-column : tie.Need-slice-set-from-column Inv-loop μ-loop
 slice-set-from-column c = omega arith
 
--- src/main.rt:51:9
 add-i : tie.Need-add-i Inv-loop μ-loop
 add-i c = omega arith
 
--- src/main.rt:49:5
 loop-less : tie.Need-loop-less Inv-loop μ-loop
 loop-less c = omega arith
 
--- src/main.rt:49:5
 loop-again : tie.Need-loop-again Inv-loop μ-loop
 loop-again c = (omega arith, omega arith, simp length-set (c .before .loop .inv .2))
 
--- src/main.rt:41:1
 same-length : tie.Need-same-length Inv-loop μ-loop
 same-length c = c .before .loop .inv .2
 
--- src/main.rt:41:1
 returns-3 : tie.Need-returns-3 Inv-loop μ-loop
 returns-3 c = search needs
 

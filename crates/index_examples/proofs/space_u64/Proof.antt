@@ -7,15 +7,12 @@ use Rattle.index_examples.proofs.space_u64.Tie as tie
 use Rattle.index_examples.proofs.space_u64.Reads as reads
 use Rattle.index_examples.proofs.space_u64.Lts as lts
 
--- src/main.rt:33:23
 slice-aggregate-result : tie.Need-slice-aggregate-result
 slice-aggregate-result c = sym (length-take-le _ _ (c .before .if1 .taken))
 
--- src/main.rt:32:1
 returns : tie.Need-returns
 returns c = search needs
 
--- src/main.rt:32:1
 returns-2 : tie.Need-returns-2
 returns-2 c = search needs
 

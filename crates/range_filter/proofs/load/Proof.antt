@@ -11,99 +11,79 @@ use borrow.Author.Needs.{needs}
 use Rattle.range_filter.proofs.load.Statement.{statement}
 use Rattle.range_filter.proofs.load.Tie as tie
 
--- src/lib.rt:276:9
 returns : tie.Need-returns
 returns c =
     let w = now (c .before .before .args .w) in
     laws.bad-short w (c .if1 .taken)
 
--- src/lib.rt:278:13
 shared-slice-read-k : tie.Need-shared-slice-read-levels
 shared-slice-read-k c = search needs
 
--- src/lib.rt:279:16
 shared-slice-read-room : tie.Need-shared-slice-read-room
 shared-slice-read-room c = search needs
 
--- src/lib.rt:280:16
 shared-slice-read-hand : tie.Need-shared-slice-read-hand
 shared-slice-read-hand c = search needs
 
--- src/lib.rt:282:9
 returns-2 : tie.Need-returns-2
 returns-2 c =
     let w = now (c .before .before .before .before .before .before .args .w) in
     laws.bad-none w (c .if2 .taken)
 
--- src/lib.rt:285:9
 returns-3 : tie.Need-returns-3
 returns-3 c =
     let w = now (c .before .before .before .before .before .before .before .args .w) in
     laws.bad-deep w (c .if3 .taken)
 
--- src/lib.rt:288:9
 returns-4 : tie.Need-returns-4
 returns-4 c =
     let w = now (c .before .before .before .before .before .before .before .before .args .w) in
     laws.bad-room w (c .if4 .taken)
 
--- src/lib.rt:290:16
 cast-most : tie.Need-cast-most
 cast-most c = search needs
 
--- src/lib.rt:290:16
 mul-most : tie.Need-mul-most
 mul-most c = search needs
 
--- src/lib.rt:290:16
 add-most : tie.Need-add-most
 add-most c = search needs
 
--- src/lib.rt:291:18
 add-if5 : tie.Need-add-if5
 add-if5 c = search needs
 
--- src/lib.rt:292:9
 returns-5 : tie.Need-returns-5
 returns-5 c =
     let w = now (c .before .before .before .before .before .before .before .before .before .args .w) in
     laws.bad-long w (c .if5 .taken)
 
--- src/lib.rt:294:8
 span-of-requires : tie.Need-span-of-requires
 span-of-requires c κs = search needs
 
--- src/lib.rt:295:9
 returns-6 : tie.Need-returns-6
 returns-6 c =
     let w = now (c .before .before .before .before .before .before .before .before .before .before .before .args .w) in
     laws.bad-hand w (c .before .span-of .result) (c .before .span-of .ensures) (c .if6 .taken)
 
--- src/lib.rt:297:25
 valid-requires : tie.Need-valid-requires
 valid-requires c κs = search needs
 
--- src/lib.rt:297:20
 enum-known-n : tie.Need-enum-known-n
 enum-known-n c = search needs
 
--- src/lib.rt:298:9
 enum-told : tie.Need-enum-told
 enum-told c = search needs
 
--- src/lib.rt:298:9
 returns-7 : tie.Need-returns-7
 returns-7 c =
     let w = now (c .before .before .before .before .before .before .before .before .before .before .before .before .before .before .args .w) in
     laws.bad-tree w (subst (Saw w 3 (getD w 0 0)) (c .enum-told .given .1) (c .before .before .valid .ensures))
 
--- src/lib.rt:301:9
 returns-8 : tie.Need-returns-8
 returns-8 c =
     let w = now (c .before .before .before .before .before .before .before .before .before .before .before .before .before .before .before .before .args .w) in
     laws.bad-many w (c .before .before .n .given .0 .0) (subst (Saw w 3 (getD w 0 0)) (c .before .before .n .given .1) (c .before .before .before .before .valid .ensures)) (c .if7 .taken)
 
--- src/lib.rt:272:1
 returns-9 : tie.Need-returns-9
 returns-9 c =
     let w = now (c .before .before .before .before .before .before .before .before .before .before .before .before .before .before .before .before .args .w) in

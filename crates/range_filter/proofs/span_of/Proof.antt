@@ -5,11 +5,9 @@ use borrow.Author.Needs.{needs}
 use Rattle.range_filter.proofs.span_of.Statement.{statement}
 use Rattle.range_filter.proofs.span_of.Tie as tie
 
--- src/lib.rt:258:5
 shl-result : tie.Need-shl-result
 shl-result c = search needs
 
--- src/lib.rt:254:1
 returns : tie.Need-returns
 returns c = omega (arith, pow-mono (c .pre))
 

@@ -11,15 +11,12 @@ use Rattle.range_input.proofs.value_at.Lts as lts
 use Rattle.range_input.proofs.bits_at.Reads as bits-at-reads
 use Rattle.range_input.proofs.signed.Reads as signed-reads
 
--- src/lib.rt:43:12
 bits-at-requires : tie.Need-bits-at-requires
 bits-at-requires c κs = search needs
 
--- src/lib.rt:43:5
 signed-requires : tie.Need-signed-requires
 signed-requires c κs = search needs
 
--- src/lib.rt:39:1
 returns : tie.Need-returns
 returns c = toZ-ofZ w32 (c .signed .result) (record { sfits = c .signed .ok }) ∙ c .signed .ensures ∙ ap signed (c .before .bits-at .ensures)
 

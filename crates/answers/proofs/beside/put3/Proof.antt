@@ -7,23 +7,18 @@ use Rattle.answers.proofs.beside.put3.Tie as tie
 use Rattle.answers.proofs.beside.put3.Reads as reads
 use Rattle.answers.proofs.beside.put3.Lts as lts
 
--- src/beside.rt:10:5
 slice-write-out : tie.Need-slice-write-out
 slice-write-out c = search needs
 
--- src/beside.rt:11:5
 slice-write-out-2 : tie.Need-slice-write-out-2
 slice-write-out-2 c = search needs
 
--- src/beside.rt:12:5
 slice-write-out-3 : tie.Need-slice-write-out-3
 slice-write-out-3 c = search needs
 
--- src/beside.rt:6:1
 same-length : tie.Need-same-length
 same-length c = search needs
 
--- src/beside.rt:6:1
 returns : tie.Need-returns
 returns c = let a = c .args in sets-whole (a .a ∷ a .b ∷ a .c ∷ []) (a .out .now) (c .pre)
 

@@ -7,27 +7,21 @@ use Rattle.answers.proofs.beside.put4.Tie as tie
 use Rattle.answers.proofs.beside.put4.Reads as reads
 use Rattle.answers.proofs.beside.put4.Lts as lts
 
--- src/beside.rt:19:5
 slice-write-out : tie.Need-slice-write-out
 slice-write-out c = search needs
 
--- src/beside.rt:20:5
 slice-write-out-2 : tie.Need-slice-write-out-2
 slice-write-out-2 c = search needs
 
--- src/beside.rt:21:5
 slice-write-out-3 : tie.Need-slice-write-out-3
 slice-write-out-3 c = search needs
 
--- src/beside.rt:22:5
 slice-write-out-4 : tie.Need-slice-write-out-4
 slice-write-out-4 c = search needs
 
--- src/beside.rt:15:1
 same-length : tie.Need-same-length
 same-length c = search needs
 
--- src/beside.rt:15:1
 returns : tie.Need-returns
 returns c = let a = c .args in sets-whole (a .a ∷ a .b ∷ a .c ∷ a .d ∷ []) (a .out .now) (c .pre)
 

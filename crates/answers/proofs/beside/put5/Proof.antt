@@ -9,31 +9,24 @@ use Rattle.answers.proofs.beside.put5.Tie as tie
 use Rattle.answers.proofs.beside.put5.Reads as reads
 use Rattle.answers.proofs.beside.put5.Lts as lts
 
--- src/beside.rt:29:5
 slice-write-out : tie.Need-slice-write-out
 slice-write-out c = search needs
 
--- src/beside.rt:30:5
 slice-write-out-2 : tie.Need-slice-write-out-2
 slice-write-out-2 c = search needs
 
--- src/beside.rt:31:5
 slice-write-out-3 : tie.Need-slice-write-out-3
 slice-write-out-3 c = search needs
 
--- src/beside.rt:32:5
 slice-write-out-4 : tie.Need-slice-write-out-4
 slice-write-out-4 c = search needs
 
--- src/beside.rt:33:5
 slice-write-out-5 : tie.Need-slice-write-out-5
 slice-write-out-5 c = let a = c .args in lt-length-sets (a .out .now) 0 (a .a ∷ a .b ∷ a .c ∷ a .d ∷ []) (omega arith)
 
--- src/beside.rt:25:1
 same-length : tie.Need-same-length
 same-length c = search needs
 
--- src/beside.rt:25:1
 returns : tie.Need-returns
 returns c = let a = c .args in sets-whole (a .a ∷ a .b ∷ a .c ∷ a .d ∷ a .e ∷ []) (a .out .now) (c .pre)
 

@@ -9,35 +9,27 @@ use Rattle.answers.proofs.beside.put6.Tie as tie
 use Rattle.answers.proofs.beside.put6.Reads as reads
 use Rattle.answers.proofs.beside.put6.Lts as lts
 
--- src/beside.rt:40:5
 slice-write-out : tie.Need-slice-write-out
 slice-write-out c = search needs
 
--- src/beside.rt:41:5
 slice-write-out-2 : tie.Need-slice-write-out-2
 slice-write-out-2 c = search needs
 
--- src/beside.rt:42:5
 slice-write-out-3 : tie.Need-slice-write-out-3
 slice-write-out-3 c = search needs
 
--- src/beside.rt:43:5
 slice-write-out-4 : tie.Need-slice-write-out-4
 slice-write-out-4 c = search needs
 
--- src/beside.rt:44:5
 slice-write-out-5 : tie.Need-slice-write-out-5
 slice-write-out-5 c = let a = c .args in lt-length-sets (a .out .now) 0 (a .a ∷ a .b ∷ a .c ∷ a .d ∷ []) (omega arith)
 
--- src/beside.rt:45:5
 slice-write-out-6 : tie.Need-slice-write-out-6
 slice-write-out-6 c = let a = c .args in lt-length-sets (a .out .now) 0 (a .a ∷ a .b ∷ a .c ∷ a .d ∷ a .e ∷ []) (omega arith)
 
--- src/beside.rt:36:1
 same-length : tie.Need-same-length
 same-length c = search needs
 
--- src/beside.rt:36:1
 returns : tie.Need-returns
 returns c = let a = c .args in sets-whole (a .a ∷ a .b ∷ a .c ∷ a .d ∷ a .e ∷ a .f ∷ []) (a .out .now) (c .pre)
 

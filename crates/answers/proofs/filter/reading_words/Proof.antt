@@ -8,51 +8,39 @@ use Rattle.answers.proofs.filter.reading_words.Reads as reads
 use Rattle.answers.proofs.filter.reading_words.Lts as lts
 use Rattle.answers.proofs.beside.put4.Reads as put4-reads
 
--- src/filter.rt:195:50
 enum-told : tie.Need-enum-told
 enum-told c = search needs
 
--- src/filter.rt:195:30
 put4-requires : tie.Need-put4-requires
 put4-requires c κs = search needs
 
--- src/filter.rt:196:24
 enum-known-answer : tie.Need-enum-known-answer
 enum-known-answer c = search needs
 
--- src/filter.rt:200:17
 cast-put4 : tie.Need-cast-put4
 cast-put4 c = search needs
 
--- src/filter.rt:201:17
 cast-put4-2 : tie.Need-cast-put4-2
 cast-put4-2 c = search needs
 
--- src/filter.rt:202:17
 cast-put4-3 : tie.Need-cast-put4-3
 cast-put4-3 c = search needs
 
--- src/filter.rt:203:17
 cast-put4-4 : tie.Need-cast-put4-4
 cast-put4-4 c = search needs
 
--- src/filter.rt:198:13
 put4-requires-2 : tie.Need-put4-requires-2
 put4-requires-2 c κs = search needs
 
--- src/filter.rt:190:1
 same-length : tie.Need-same-length
 same-length c = search needs
 
--- src/filter.rt:190:1
 returns : tie.Need-returns
 returns c = c .before .before .put4 .ensures ∙ ap readingBeside (sym (c .before .before .before .before .enum-told .given .1))
 
--- src/filter.rt:190:1
 same-length-2 : tie.Need-same-length-2
 same-length-2 c = search needs
 
--- src/filter.rt:190:1
 returns-2 : tie.Need-returns-2
 returns-2 c = c .before .before .put42 .ensures ∙ ap readingBeside (sym (c .before .before .before .before .before .before .before .before .before .before .answer .given .1))
 

@@ -8,83 +8,63 @@ use Rattle.answers.proofs.index.build_words.Reads as reads
 use Rattle.answers.proofs.index.build_words.Lts as lts
 use Rattle.answers.proofs.beside.put4.Reads as put4-reads
 
--- src/index.rt:38:13
 enum-known-answer : tie.Need-enum-known-answer
 enum-known-answer c = search needs
 
--- src/index.rt:41:14
 put4-requires : tie.Need-put4-requires
 put4-requires c κs = search needs
 
--- src/index.rt:42:53
 enum-told : tie.Need-enum-told
 enum-told c = search needs
 
--- src/index.rt:42:33
 put4-requires-2 : tie.Need-put4-requires-2
 put4-requires-2 c κs = search needs
 
--- src/index.rt:43:35
 enum-known-answer-2 : tie.Need-enum-known-answer-2
 enum-known-answer-2 c = search needs
 
--- src/index.rt:43:41
 put4-requires-3 : tie.Need-put4-requires-3
 put4-requires-3 c κs = search needs
 
--- src/index.rt:44:36
 enum-known-answer-3 : tie.Need-enum-known-answer-3
 enum-known-answer-3 c = search needs
 
--- src/index.rt:44:42
 put4-requires-4 : tie.Need-put4-requires-4
 put4-requires-4 c κs = search needs
 
--- src/index.rt:45:38
 enum-known-answer-4 : tie.Need-enum-known-answer-4
 enum-known-answer-4 c = search needs
 
--- src/index.rt:45:44
 put4-requires-5 : tie.Need-put4-requires-5
 put4-requires-5 c κs = search needs
 
--- src/index.rt:32:1
 same-length : tie.Need-same-length
 same-length c = search needs
 
--- src/index.rt:32:1
 returns : tie.Need-returns
 returns c = c .before .before .put4 .ensures ∙ ap build-beside (sym (c .before .before .before .before .before .answer .given .1))
 
--- src/index.rt:32:1
 same-length-2 : tie.Need-same-length-2
 same-length-2 c = search needs
 
--- src/index.rt:32:1
 returns-2 : tie.Need-returns-2
 returns-2 c = c .before .before .put42 .ensures ∙ ap build-beside (sym (c .before .before .before .before .enum-told .given .1))
 
--- src/index.rt:32:1
 same-length-3 : tie.Need-same-length-3
 same-length-3 c = search needs
 
--- src/index.rt:32:1
 returns-3 : tie.Need-returns-3
 returns-3 c = c .before .before .put43 .ensures ∙ ap build-beside (sym (c .before .before .before .before .before .answer2 .given .1))
 
--- src/index.rt:32:1
 same-length-4 : tie.Need-same-length-4
 same-length-4 c = search needs
 
--- src/index.rt:32:1
 returns-4 : tie.Need-returns-4
 returns-4 c = c .before .before .put44 .ensures ∙ ap build-beside (sym (c .before .before .before .before .before .answer3 .given .1))
 
--- src/index.rt:32:1
 same-length-5 : tie.Need-same-length-5
 same-length-5 c = search needs
 
--- src/index.rt:32:1
 returns-5 : tie.Need-returns-5
 returns-5 c = c .before .before .put45 .ensures ∙ ap build-beside (sym (c .before .before .before .before .before .answer4 .given .1))
 

@@ -8,99 +8,75 @@ use Rattle.answers.proofs.index.pack_words.Reads as reads
 use Rattle.answers.proofs.index.pack_words.Lts as lts
 use Rattle.answers.proofs.beside.put3.Reads as put3-reads
 
--- src/index.rt:89:13
 enum-known-answer : tie.Need-enum-known-answer
 enum-known-answer c = search needs
 
--- src/index.rt:91:14
 put3-requires : tie.Need-put3-requires
 put3-requires c κs = search needs
 
--- src/index.rt:92:52
 enum-told : tie.Need-enum-told
 enum-told c = search needs
 
--- src/index.rt:92:32
 put3-requires-2 : tie.Need-put3-requires-2
 put3-requires-2 c κs = search needs
 
--- src/index.rt:93:55
 enum-told-2 : tie.Need-enum-told-2
 enum-told-2 c = search needs
 
--- src/index.rt:93:35
 put3-requires-3 : tie.Need-put3-requires-3
 put3-requires-3 c κs = search needs
 
--- src/index.rt:94:50
 enum-told-3 : tie.Need-enum-told-3
 enum-told-3 c = search needs
 
--- src/index.rt:94:30
 put3-requires-4 : tie.Need-put3-requires-4
 put3-requires-4 c κs = search needs
 
--- src/index.rt:95:35
 enum-known-answer-2 : tie.Need-enum-known-answer-2
 enum-known-answer-2 c = search needs
 
--- src/index.rt:95:41
 put3-requires-5 : tie.Need-put3-requires-5
 put3-requires-5 c κs = search needs
 
--- src/index.rt:96:37
 enum-known-answer-3 : tie.Need-enum-known-answer-3
 enum-known-answer-3 c = search needs
 
--- src/index.rt:96:43
 put3-requires-6 : tie.Need-put3-requires-6
 put3-requires-6 c κs = search needs
 
--- src/index.rt:83:1
 same-length : tie.Need-same-length
 same-length c = search needs
 
--- src/index.rt:83:1
 returns : tie.Need-returns
 returns c = c .before .before .put3 .ensures ∙ ap pack-beside (sym (c .before .before .before .before .before .answer .given .1))
 
--- src/index.rt:83:1
 same-length-2 : tie.Need-same-length-2
 same-length-2 c = search needs
 
--- src/index.rt:83:1
 returns-2 : tie.Need-returns-2
 returns-2 c = c .before .before .put32 .ensures ∙ ap pack-beside (sym (c .before .before .before .before .enum-told .given .1))
 
--- src/index.rt:83:1
 same-length-3 : tie.Need-same-length-3
 same-length-3 c = search needs
 
--- src/index.rt:83:1
 returns-3 : tie.Need-returns-3
 returns-3 c = c .before .before .put33 .ensures ∙ ap pack-beside (sym (c .before .before .before .before .enum-told2 .given .1))
 
--- src/index.rt:83:1
 same-length-4 : tie.Need-same-length-4
 same-length-4 c = search needs
 
--- src/index.rt:83:1
 returns-4 : tie.Need-returns-4
 returns-4 c = c .before .before .put34 .ensures ∙ ap pack-beside (sym (c .before .before .before .before .enum-told3 .given .1))
 
--- src/index.rt:83:1
 same-length-5 : tie.Need-same-length-5
 same-length-5 c = search needs
 
--- src/index.rt:83:1
 returns-5 : tie.Need-returns-5
 returns-5 c = c .before .before .put35 .ensures ∙ ap pack-beside (sym (c .before .before .before .before .before .answer2 .given .1))
 
--- src/index.rt:83:1
 same-length-6 : tie.Need-same-length-6
 same-length-6 c = search needs
 
--- src/index.rt:83:1
 returns-6 : tie.Need-returns-6
 returns-6 c = c .before .before .put36 .ensures ∙ ap pack-beside (sym (c .before .before .before .before .before .answer3 .given .1))
 

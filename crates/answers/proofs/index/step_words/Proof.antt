@@ -8,51 +8,39 @@ use Rattle.answers.proofs.index.step_words.Reads as reads
 use Rattle.answers.proofs.index.step_words.Lts as lts
 use Rattle.answers.proofs.beside.put5.Reads as put5-reads
 
--- src/index.rt:176:20
 enum-known-answer : tie.Need-enum-known-answer
 enum-known-answer c = search needs
 
--- src/index.rt:176:35
 put5-requires : tie.Need-put5-requires
 put5-requires c κs = search needs
 
--- src/index.rt:184:21
 enum-known-answer-2 : tie.Need-enum-known-answer-2
 enum-known-answer-2 c = search needs
 
--- src/index.rt:184:27
 put5-requires-2 : tie.Need-put5-requires-2
 put5-requires-2 c κs = search needs
 
--- src/index.rt:192:47
 enum-told : tie.Need-enum-told
 enum-told c = search needs
 
--- src/index.rt:192:27
 put5-requires-3 : tie.Need-put5-requires-3
 put5-requires-3 c κs = search needs
 
--- src/index.rt:171:1
 same-length : tie.Need-same-length
 same-length c = search needs
 
--- src/index.rt:171:1
 returns : tie.Need-returns
 returns c = c .before .before .put5 .ensures ∙ ap step-beside (sym (c .before .before .before .before .before .answer .given .1))
 
--- src/index.rt:171:1
 same-length-2 : tie.Need-same-length-2
 same-length-2 c = search needs
 
--- src/index.rt:171:1
 returns-2 : tie.Need-returns-2
 returns-2 c = c .before .before .put52 .ensures ∙ ap step-beside (sym (c .before .before .before .before .before .answer2 .given .1))
 
--- src/index.rt:171:1
 same-length-3 : tie.Need-same-length-3
 same-length-3 c = search needs
 
--- src/index.rt:171:1
 returns-3 : tie.Need-returns-3
 returns-3 c = c .before .before .put53 .ensures ∙ ap step-beside (sym (c .before .before .before .before .enum-told .given .1))
 

@@ -10,19 +10,15 @@ use Rattle.answers.proofs.index.step_number.Reads as step-number-reads
 use Rattle.answers.proofs.index.step_words.Reads as step-words-reads
 use Rattle.dictionary.proofs.Position.step.Reads as step-reads
 
--- src/index.rt:213:9
 step-requires : tie.Need-step-requires
 step-requires c κs = search needs
 
--- src/index.rt:214:5
 step-words-requires : tie.Need-step-words-requires
 step-words-requires c κs = search needs
 
--- src/index.rt:215:5
 step-number-requires : tie.Need-step-number-requires
 step-number-requires c κs = search needs
 
--- src/index.rt:197:1
 returns : tie.Need-returns
 returns c =
     let e = c .before .before .before .step .ensures in

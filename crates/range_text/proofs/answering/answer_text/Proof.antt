@@ -25,31 +25,24 @@ use Rattle.range_text.proofs.answering.column_text.Reads as column-text
 use Rattle.range_input.proofs.decode.Reads as decode-reads
 use Rattle.range_text.proofs.writing.put_refused.Reads as put-refused-reads
 
--- src/answering.rt:104:9
 returns : tie.Need-returns
 returns c = let s = c .before .before .before in writes-nothing (s .args .input .now) (s .args .out .now) (c .if1 .taken)
 
--- src/answering.rt:107:29
 slice-aggregate-decode : tie.Need-slice-aggregate-decode
 slice-aggregate-decode c = search needs
 
--- src/answering.rt:107:9
 decode-requires : tie.Need-decode-requires
 decode-requires c κs = search needs
 
--- src/answering.rt:109:42
 enum-told : tie.Need-enum-told
 enum-told c = search needs
 
--- src/answering.rt:109:30
 put-refused-requires : tie.Need-put-refused-requires
 put-refused-requires c κs = omega (arith, refused-short 12 (omega arith), c .before .before .before .before .before .before .if1 .left)
 
--- src/answering.rt:110:24
 enum-known-got : tie.Need-enum-known-got
 enum-known-got c = search needs
 
--- src/answering.rt:110:57
 array-share-prefix-column : tie.Need-array-share-prefix-column
 array-share-prefix-column c =
     let s = c .before .before .before .before .before .before .before .before .before in
@@ -59,7 +52,6 @@ array-share-prefix-column c =
     let g = c .before .got .given in
     omega (arith, few-read (f .ensures) (g .0 .0) (g .0 .1 .0) (g .0 .1 .1 .0) (g .1), f .kept .1 .0)
 
--- src/answering.rt:110:57
 slice-aggregate-column-text : tie.Need-slice-aggregate-column-text
 slice-aggregate-column-text c =
     let s = c .before .before .before .before .before .before .before .before .before .before in
@@ -69,7 +61,6 @@ slice-aggregate-column-text c =
     let g = c .before .before .got .given in
     sym (length-take-le (g .0 .1 .1 .0) (f .last .1 .0) (omega (arith, few-read (f .ensures) (g .0 .0) (g .0 .1 .0) (g .0 .1 .1 .0) (g .1), f .kept .1 .0)))
 
--- src/answering.rt:110:45
 column-text-requires : tie.Need-column-text-requires
 column-text-requires c κs =
     let s = c .before .before .before .before .before .before .before .before .before .before .before in
@@ -79,11 +70,9 @@ column-text-requires c κs =
     let g = c .before .before .before .got .given in
     (omega (arith, few-read (f .ensures) (g .0 .0) (g .0 .1 .0) (g .0 .1 .1 .0) (g .1), length-take-le (g .0 .1 .1 .0) (f .last .1 .0) (omega (arith, few-read (f .ensures) (g .0 .0) (g .0 .1 .0) (g .0 .1 .1 .0) (g .1), f .kept .1 .0))), c .before .before .before .before .before .before .before .before .if1 .left)
 
--- src/answering.rt:100:1
 same-length : tie.Need-same-length
 same-length c = search needs
 
--- src/answering.rt:100:1
 returns-2 : tie.Need-returns-2
 returns-2 c =
     let s = c .before .before .before .before .before .before .before .before .before .before .before .before in
@@ -92,11 +81,9 @@ returns-2 c =
     let f = c .before .before .before .before .before .before .before .decode in
     writes-text i o (c .before .before .before .before .before .before .before .before .before .if1 .left) (puts-as (text-of i) (unread-text i (was-unread (f .ensures) (c .before .before .before .before .enum-told .given .1))) (c .before .before .put-refused .ensures))
 
--- src/answering.rt:100:1
 same-length-2 : tie.Need-same-length-2
 same-length-2 c = search needs
 
--- src/answering.rt:100:1
 returns-3 : tie.Need-returns-3
 returns-3 c =
     let s = c .before .before .before .before .before .before .before .before .before .before .before .before .before .before in

@@ -21,27 +21,21 @@ use Rattle.range_text.proofs.answering.column_text.Lts as lts
 use Rattle.column_index.proofs.made.build.Reads as build-reads
 use Rattle.range_text.proofs.answering.searched_text.Reads as searched-text-reads
 
--- src/answering.rt:77:50
 slice-aggregate-build : tie.Need-slice-aggregate-build
 slice-aggregate-build c = search needs
 
--- src/answering.rt:77:64
 slice-aggregate-build-2 : tie.Need-slice-aggregate-build-2
 slice-aggregate-build-2 c = search needs
 
--- src/answering.rt:77:79
 slice-aggregate-build-3 : tie.Need-slice-aggregate-build-3
 slice-aggregate-build-3 c = search needs
 
--- src/answering.rt:77:9
 build-requires : tie.Need-build-requires
 build-requires c κs = search needs
 
--- src/answering.rt:80:22
 enum-known-made : tie.Need-enum-known-made
 enum-known-made c = search needs
 
--- src/answering.rt:85:13
 array-share-prefix-borders : tie.Need-array-share-prefix-borders
 array-share-prefix-borders c =
     let s = c .before .before .before .before .before .before .before .before .before .before .before in
@@ -50,7 +44,6 @@ array-share-prefix-borders c =
     let g = c .before .made .given in
     omega (arith, fronts-few (s .pre .0) refl refl refl (f .ensures) (g .0 .0) (g .0 .1 .0) (g .0 .1 .1 .0) (g .1) .0, f .kept .1 .0)
 
--- src/answering.rt:85:13
 slice-aggregate-searched-text : tie.Need-slice-aggregate-searched-text
 slice-aggregate-searched-text c =
     let s = c .before .before .before .before .before .before .before .before .before .before .before .before in
@@ -59,7 +52,6 @@ slice-aggregate-searched-text c =
     let g = c .before .before .made .given in
     sym (length-take-le (g .0 .0) (f .last .1 .0) (omega (arith, fronts-few (s .pre .0) refl refl refl (f .ensures) (g .0 .0) (g .0 .1 .0) (g .0 .1 .1 .0) (g .1) .0, f .kept .1 .0)))
 
--- src/answering.rt:86:13
 array-share-prefix-imprints : tie.Need-array-share-prefix-imprints
 array-share-prefix-imprints c =
     let s = c .before .before .before .before .before .before .before .before .before .before .before .before in
@@ -68,7 +60,6 @@ array-share-prefix-imprints c =
     let g = c .before .before .made .given in
     omega (arith, fronts-few (s .pre .0) refl refl refl (f .ensures) (g .0 .0) (g .0 .1 .0) (g .0 .1 .1 .0) (g .1) .1, f .kept .1 .1 .0)
 
--- src/answering.rt:86:13
 slice-aggregate-searched-text-2 : tie.Need-slice-aggregate-searched-text-2
 slice-aggregate-searched-text-2 c =
     let s = c .before .before .before .before .before .before .before .before .before .before .before .before .before in
@@ -77,7 +68,6 @@ slice-aggregate-searched-text-2 c =
     let g = c .before .before .before .made .given in
     sym (length-take-le (g .0 .1 .0) (f .last .1 .1 .0) (omega (arith, fronts-few (s .pre .0) refl refl refl (f .ensures) (g .0 .0) (g .0 .1 .0) (g .0 .1 .1 .0) (g .1) .1, f .kept .1 .1 .0)))
 
--- src/answering.rt:87:13
 array-share-prefix-dictionary : tie.Need-array-share-prefix-dictionary
 array-share-prefix-dictionary c =
     let s = c .before .before .before .before .before .before .before .before .before .before .before .before .before in
@@ -86,7 +76,6 @@ array-share-prefix-dictionary c =
     let g = c .before .before .before .made .given in
     omega (arith, fronts-few (s .pre .0) refl refl refl (f .ensures) (g .0 .0) (g .0 .1 .0) (g .0 .1 .1 .0) (g .1) .2, f .kept .1 .1 .1 .0)
 
--- src/answering.rt:87:13
 slice-aggregate-searched-text-3 : tie.Need-slice-aggregate-searched-text-3
 slice-aggregate-searched-text-3 c =
     let s = c .before .before .before .before .before .before .before .before .before .before .before .before .before .before in
@@ -95,7 +84,6 @@ slice-aggregate-searched-text-3 c =
     let g = c .before .before .before .before .made .given in
     sym (length-take-le (g .0 .1 .1 .0) (f .last .1 .1 .1 .0) (omega (arith, fronts-few (s .pre .0) refl refl refl (f .ensures) (g .0 .0) (g .0 .1 .0) (g .0 .1 .1 .0) (g .1) .2, f .kept .1 .1 .1 .0)))
 
--- src/answering.rt:83:14
 searched-text-requires : tie.Need-searched-text-requires
 searched-text-requires c κs =
     let s = c .before .before .before .before .before .before .before .before .before .before .before .before .before .before .before in
@@ -105,27 +93,21 @@ searched-text-requires c κs =
     let p = fronts-are (s .pre .0) refl refl refl (f .ensures) (g .0 .0) (g .0 .1 .0) (g .0 .1 .1 .0) (g .1) in
     (s .pre, (p .borders-front, (p .imprints-front, p .dictionary-front)))
 
--- src/answering.rt:92:33
 enum-told : tie.Need-enum-told
 enum-told c = search needs
 
--- src/answering.rt:93:41
 enum-told-2 : tie.Need-enum-told-2
 enum-told-2 c = search needs
 
--- src/answering.rt:94:42
 enum-told-3 : tie.Need-enum-told-3
 enum-told-3 c = search needs
 
--- src/answering.rt:95:44
 enum-told-4 : tie.Need-enum-told-4
 enum-told-4 c = search needs
 
--- src/answering.rt:70:1
 same-length : tie.Need-same-length
 same-length c = search needs
 
--- src/answering.rt:70:1
 returns : tie.Need-returns
 returns c =
     let s = c .before .before .before .before .before .before .before .before .before .before .before .before .before .before .before .before .before .before in
@@ -135,7 +117,6 @@ returns c =
     let h = toZ-ofZ w32 (a .high) (s .fits .high) in
     puts-as (range-text (a .column .now) (a .low) (a .high)) (λ j. range-text (a .column .now) (l j) (h j)) (c .before .before .searched-text .ensures)
 
--- src/answering.rt:70:1
 returns-2 : tie.Need-returns-2
 returns-2 c =
     let s = c .before .before .before .before .before .before .before .before .before .before in
@@ -143,7 +124,6 @@ returns-2 c =
     let f = c .before .before .before .before .before .build in
     absurd (build-never (s .pre .0) refl refl refl (f .ensures) 1 (ap (λ (x : BuildAnswer). numbered (build-number x)) (c .enum-told .given .1)))
 
--- src/answering.rt:70:1
 returns-3 : tie.Need-returns-3
 returns-3 c =
     let s = c .before .before .before .before .before .before .before .before .before .before in
@@ -151,7 +131,6 @@ returns-3 c =
     let f = c .before .before .before .before .before .build in
     absurd (build-never (s .pre .0) refl refl refl (f .ensures) 3 (ap (λ (x : BuildAnswer). numbered (build-number x)) (c .enum-told2 .given .1)))
 
--- src/answering.rt:70:1
 returns-4 : tie.Need-returns-4
 returns-4 c =
     let s = c .before .before .before .before .before .before .before .before .before .before in
@@ -159,7 +138,6 @@ returns-4 c =
     let f = c .before .before .before .before .before .build in
     absurd (build-never (s .pre .0) refl refl refl (f .ensures) 3 (ap (λ (x : BuildAnswer). numbered (build-number x)) (c .enum-told3 .given .1)))
 
--- src/answering.rt:70:1
 returns-5 : tie.Need-returns-5
 returns-5 c =
     let s = c .before .before .before .before .before .before .before .before .before .before in

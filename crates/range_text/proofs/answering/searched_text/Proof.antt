@@ -24,23 +24,18 @@ use Rattle.range_text.proofs.answering.line_count.Reads as line-count-r
 use Rattle.range_text.proofs.writing.put_found.Reads as put-found-reads
 use Rattle.range_text.proofs.writing.put_refused.Reads as put-refused-reads
 
--- src/answering.rt:41:89
 slice-aggregate-search : tie.Need-slice-aggregate-search
 slice-aggregate-search c = search needs
 
--- src/answering.rt:41:9
 search-requires : tie.Need-search-requires
 search-requires c κs = search needs
 
--- src/answering.rt:44:19
 enum-known-answer : tie.Need-enum-known-answer
 enum-known-answer c = search needs
 
--- src/answering.rt:49:17
 line-count-requires : tie.Need-line-count-requires
 line-count-requires c κs = search needs
 
--- src/answering.rt:58:17
 array-share-prefix-rows : tie.Need-array-share-prefix-rows
 array-share-prefix-rows c =
     let s = c .before .before .before .before .before .before .before .before .before .before .before in
@@ -51,7 +46,6 @@ array-share-prefix-rows c =
     let g = c .before .before .before .answer .given in
     omega (arith, count-few (s .pre .0 .0) refl (s .pre .1 .0) (s .pre .1 .1 .0) (s .pre .1 .1 .1) l h (f .ensures) (g .0 .0) (g .0 .1 .0) (g .0 .1 .1 .0) (g .0 .1 .1 .1 .0) (g .1), f .kept .1 .1 .1 .1 .1 .1 .0)
 
--- src/answering.rt:58:17
 slice-aggregate-put-found : tie.Need-slice-aggregate-put-found
 slice-aggregate-put-found c =
     let s = c .before .before .before .before .before .before .before .before .before .before .before .before in
@@ -62,7 +56,6 @@ slice-aggregate-put-found c =
     let g = c .before .before .before .before .answer .given in
     sym (length-take-le (g .0 .0) (f .last .1 .1 .1 .1 .1 .1 .0) (omega (arith, count-few (s .pre .0 .0) refl (s .pre .1 .0) (s .pre .1 .1 .0) (s .pre .1 .1 .1) l h (f .ensures) (g .0 .0) (g .0 .1 .0) (g .0 .1 .1 .0) (g .0 .1 .1 .1 .0) (g .1), f .kept .1 .1 .1 .1 .1 .1 .0)))
 
--- src/answering.rt:50:13
 put-found-requires : tie.Need-put-found-requires
 put-found-requires c κs =
     let s = c .before .before .before .before .before .before .before .before .before .before .before .before in
@@ -74,35 +67,27 @@ put-found-requires c κs =
     let k = c .before .before .line-count in
     (six-numbers (s .pre .0 .0) refl (s .pre .1 .0) (s .pre .1 .1 .0) (s .pre .1 .1 .1) l h (f .ensures) (g .0 .0) (g .0 .1 .0) (g .0 .1 .1 .0) (g .0 .1 .1 .1 .0) (g .1) (k .result) (k .ensures), (all-below (s .pre .0 .0) refl (s .pre .1 .0) (s .pre .1 .1 .0) (s .pre .1 .1 .1) l h (f .ensures) (g .0 .0) (g .0 .1 .0) (g .0 .1 .1 .0) (g .0 .1 .1 .1 .0) (g .1), text-room (s .pre .0 .0) refl (s .pre .1 .0) (s .pre .1 .1 .0) (s .pre .1 .1 .1) l h (f .ensures) (g .0 .0) (g .0 .1 .0) (g .0 .1 .1 .0) (g .0 .1 .1 .1 .0) (g .1) (k .result) (k .ensures) (a .out .now) (s .pre .0 .1)))
 
--- src/answering.rt:61:51
 enum-told : tie.Need-enum-told
 enum-told c = search needs
 
--- src/answering.rt:61:39
 put-refused-requires : tie.Need-put-refused-requires
 put-refused-requires c κs = let s = c .before .before .before .before .before .before .before .before .before in omega (arith, refused-short 1 (omega arith), s .pre .0 .1)
 
--- src/answering.rt:62:34
 enum-told-2 : tie.Need-enum-told-2
 enum-told-2 c = search needs
 
--- src/answering.rt:63:37
 enum-told-3 : tie.Need-enum-told-3
 enum-told-3 c = search needs
 
--- src/answering.rt:64:34
 enum-told-4 : tie.Need-enum-told-4
 enum-told-4 c = search needs
 
--- src/answering.rt:65:35
 enum-told-5 : tie.Need-enum-told-5
 enum-told-5 c = search needs
 
--- src/answering.rt:25:1
 same-length : tie.Need-same-length
 same-length c = search needs
 
--- src/answering.rt:25:1
 returns : tie.Need-returns
 returns c =
     let s = c .before .before .before .before .before .before .before .before .before .before .before .before .before .before .before in
@@ -114,11 +99,9 @@ returns c =
     let k = c .before .before .before .before .before .line-count in
     puts-as (range-text (a .column .now) (a .low) (a .high)) (text-is (s .pre .0 .0) refl (s .pre .1 .0) (s .pre .1 .1 .0) (s .pre .1 .1 .1) l h (f .ensures) (g .0 .0) (g .0 .1 .0) (g .0 .1 .1 .0) (g .0 .1 .1 .1 .0) (g .1) (k .result) (k .ensures)) (c .before .before .put-found .ensures)
 
--- src/answering.rt:25:1
 same-length-2 : tie.Need-same-length-2
 same-length-2 c = search needs
 
--- src/answering.rt:25:1
 returns-2 : tie.Need-returns-2
 returns-2 c =
     let s = c .before .before .before .before .before .before .before .before .before .before .before .before in
@@ -128,7 +111,6 @@ returns-2 c =
     let h = toZ-ofZ w32 (a .high) (s .fits .high) in
     puts-as (range-text (a .column .now) (a .low) (a .high)) (low-text (s .pre .0 .0) refl (s .pre .1 .0) (s .pre .1 .1 .0) (s .pre .1 .1 .1) l h (f .ensures) (c .before .before .before .before .enum-told .given .1)) (c .before .before .put-refused .ensures)
 
--- src/answering.rt:25:1
 returns-3 : tie.Need-returns-3
 returns-3 c =
     let s = c .before .before .before .before .before .before .before .before in
@@ -138,7 +120,6 @@ returns-3 c =
     let h = toZ-ofZ w32 (a .high) (s .fits .high) in
     absurd (never (s .pre .0 .0) refl (s .pre .1 .0) (s .pre .1 .1 .0) (s .pre .1 .1 .1) l h (f .ensures) 0 (ap (λ (x : SearchAnswer). numbered (search-number x)) (c .enum-told2 .given .1)))
 
--- src/answering.rt:25:1
 returns-4 : tie.Need-returns-4
 returns-4 c =
     let s = c .before .before .before .before .before .before .before .before in
@@ -148,7 +129,6 @@ returns-4 c =
     let h = toZ-ofZ w32 (a .high) (s .fits .high) in
     absurd (never (s .pre .0 .0) refl (s .pre .1 .0) (s .pre .1 .1 .0) (s .pre .1 .1 .1) l h (f .ensures) 3 (ap (λ (x : SearchAnswer). numbered (search-number x)) (c .enum-told3 .given .1)))
 
--- src/answering.rt:25:1
 returns-5 : tie.Need-returns-5
 returns-5 c =
     let s = c .before .before .before .before .before .before .before .before in
@@ -158,7 +138,6 @@ returns-5 c =
     let h = toZ-ofZ w32 (a .high) (s .fits .high) in
     absurd (never (s .pre .0 .0) refl (s .pre .1 .0) (s .pre .1 .1 .0) (s .pre .1 .1 .1) l h (f .ensures) 1 (ap (λ (x : SearchAnswer). numbered (search-number x)) (c .enum-told4 .given .1)))
 
--- src/answering.rt:25:1
 returns-6 : tie.Need-returns-6
 returns-6 c =
     let s = c .before .before .before .before .before .before .before .before in

@@ -30,7 +30,6 @@ abbrev put-number-below : ℕ → In 1 put-number-kinds.ps
 put-number-below t =
     and 1 put-number-kinds.ps (falls 1 put-number-kinds.ps _<_ μ-put-number t) put-number.Pre
 
--- src/writing.rt:42:34
 put-number-digit-requires : (t : ℕ) → put-number-lts.Need-digit-requires (
   digit-reads.Asked,
   digit-reads.Learnt,
@@ -41,7 +40,6 @@ put-number-digit-requires : (t : ℕ) → put-number-lts.Need-digit-requires (
 ) (put-number-at t) put-number.Post
 put-number-digit-requires t c κs = omega arith
 
--- src/writing.rt:42:9
 put-number-put-byte-requires : (t : ℕ) → put-number-lts.Need-put-byte-requires (
   digit-reads.Asked,
   digit-reads.Learnt,
@@ -52,7 +50,6 @@ put-number-put-byte-requires : (t : ℕ) → put-number-lts.Need-put-byte-requir
 ) (put-number-at t) put-number.Post
 put-number-put-byte-requires t c κs = let s = c .before .before .before .before in omega (arith, ap length (decimal-digit (s .args .n) (c .before .before .if1 .taken)), s .pre)
 
--- src/writing.rt:42:9
 put-number-same-length : (t : ℕ) → put-number-lts.Need-same-length (
   digit-reads.Asked,
   digit-reads.Learnt,
@@ -63,7 +60,6 @@ put-number-same-length : (t : ℕ) → put-number-lts.Need-same-length (
 ) (put-number-at t) put-number.Post
 put-number-same-length t c = search needs
 
--- src/writing.rt:42:9
 put-number-returns : (t : ℕ) → put-number-lts.Need-returns (
   digit-reads.Asked,
   digit-reads.Learnt,
@@ -76,7 +72,6 @@ put-number-returns t c =
     let s = c .before .before .before .before .before .before .before in
     puts-as (decimal (s .args .n)) (ap (λ (d : ℕ). d ∷ []) (c .before .before .before .digit .ensures) ∙ sym (decimal-digit (s .args .n) (c .before .before .before .before .before .if1 .taken))) (c .before .before .put-byte .ensures)
 
--- src/writing.rt:44:9
 put-number-put-number-requires : (t : ℕ) → put-number-lts.Need-put-number-requires (
   digit-reads.Asked,
   digit-reads.Learnt,
@@ -90,7 +85,6 @@ put-number-put-number-requires t c κs =
     let n = s .args .n in
     omega (arith, ap length (decimal-more n (c .before .if1 .left) (s .pre .1 .0)), length-append (decimal (n / 10)) ((48 + n % 10) ∷ []), s .pre)
 
--- src/writing.rt:45:25
 put-number-digit-requires-2 : (t : ℕ) → put-number-lts.Need-digit-requires-2 (
   digit-reads.Asked,
   digit-reads.Learnt,
@@ -101,7 +95,6 @@ put-number-digit-requires-2 : (t : ℕ) → put-number-lts.Need-digit-requires-2
 ) (put-number-at t) put-number.Post
 put-number-digit-requires-2 t c κs = omega arith
 
--- src/writing.rt:45:5
 put-number-put-byte-requires-2 : (t : ℕ) → put-number-lts.Need-put-byte-requires-2 (
   digit-reads.Asked,
   digit-reads.Learnt,
@@ -116,7 +109,6 @@ put-number-put-byte-requires-2 t c κs =
     let p = c .before .before .before .before .put-number .ensures in
     omega (arith, ap length (decimal-more n (c .before .before .before .before .before .before .if1 .left) (s .pre .1 .0)), length-append (decimal (n / 10)) ((48 + n % 10) ∷ []), p .place, puts-length p, s .pre)
 
--- src/writing.rt:37:1
 put-number-same-length-2 : (t : ℕ) → put-number-lts.Need-same-length-2 (
   digit-reads.Asked,
   digit-reads.Learnt,
@@ -127,7 +119,6 @@ put-number-same-length-2 : (t : ℕ) → put-number-lts.Need-same-length-2 (
 ) (put-number-at t) put-number.Post
 put-number-same-length-2 t c = search needs
 
--- src/writing.rt:37:1
 put-number-returns-2 : (t : ℕ) → put-number-lts.Need-returns-2 (
   digit-reads.Asked,
   digit-reads.Learnt,

@@ -14,7 +14,6 @@ use Rattle.range_text.proofs.writing.put_counts.Reads as put-counts-rea
 use Rattle.range_text.proofs.writing.put_rows.Reads as put-rows-reads
 use Rattle.range_text.proofs.writing.put_size.Reads as put-size-reads
 
--- src/writing.rt:162:9
 put-size-requires : tie.Need-put-size-requires
 unfolding found-text
 put-size-requires c κs =
@@ -28,7 +27,6 @@ put-size-requires c κs =
     let m = s .pre .1 .1 in
     (b .0, b .1, b .2, room-first o 0 u v (room-first o 0 (u ++ v) w m))
 
--- src/writing.rt:163:9
 put-counts-requires : tie.Need-put-counts-requires
 unfolding found-text
 put-counts-requires c κs =
@@ -42,7 +40,6 @@ put-counts-requires c κs =
     let m = s .pre .1 .1 in
     (b .3, b .4, b .5, room-then o 0 u v (room-first o 0 (u ++ v) w m) _ _ (c .before .before .before .put-size .ensures))
 
--- src/writing.rt:164:5
 put-rows-requires : tie.Need-put-rows-requires
 unfolding found-text
 put-rows-requires c κs =
@@ -56,11 +53,9 @@ put-rows-requires c κs =
     let m = s .pre .1 .1 in
     (s .pre .1 .0, room-then o 0 (u ++ v) w m _ _ (puts-then o 0 u v (c .before .before .before .before .before .before .before .put-size .ensures) (c .before .before .before .put-counts .ensures)))
 
--- src/writing.rt:147:1
 same-length : tie.Need-same-length
 same-length c = search needs
 
--- src/writing.rt:147:1
 returns : tie.Need-returns
 unfolding found-text
 returns c =

@@ -13,21 +13,17 @@ use Rattle.range_text.proofs.writing.put_labelled.Lts as lts
 use Rattle.range_text.proofs.writing.put_number.Reads as put-number-reads
 use Rattle.range_text.proofs.writing.put_word.Reads as put-word-reads
 
--- src/writing.rt:52:9
 put-word-requires : tie.Need-put-word-requires
 unfolding labelled
 put-word-requires c κs = let s = c .before .before .before in room-first (s .args .out .now) (s .args .at) (s .args .word .now) (decimal (s .args .n)) (s .pre .1)
 
--- src/writing.rt:53:5
 put-number-requires : tie.Need-put-number-requires
 unfolding labelled
 put-number-requires c κs = let s = c .before .before .before .before .before .before .before in (s .pre .0, room-then (s .args .out .now) (s .args .at) (s .args .word .now) (decimal (s .args .n)) (s .pre .1) _ _ (c .before .before .before .put-word .ensures))
 
--- src/writing.rt:48:1
 same-length : tie.Need-same-length
 same-length c = search needs
 
--- src/writing.rt:48:1
 returns : tie.Need-returns
 unfolding labelled
 returns c = let s = c .before .before .before .before .before .before .before .before .before .before in puts-then (s .args .out .now) (s .args .at) (s .args .word .now) (decimal (s .args .n)) (c .before .before .before .before .before .before .put-word .ensures) (c .before .before .put-number .ensures)

@@ -13,25 +13,20 @@ use Rattle.range_text.proofs.writing.put_refused.Lts as lts
 use Rattle.range_text.proofs.writing.put_byte.Reads as put-byte-reads
 use Rattle.range_text.proofs.writing.put_labelled.Reads as put-labelled-reads
 
--- src/writing.rt:110:43
 slice-aggregate-put-labelled : tie.Need-slice-aggregate-put-labelled
 slice-aggregate-put-labelled c = search needs
 
--- src/writing.rt:110:9
 put-labelled-requires : tie.Need-put-labelled-requires
 unfolding refused-line
 put-labelled-requires c κs = let s = c .before .before .before in (s .pre .0, room-first (s .args .out .now) 0 (labelled refused-word (s .args .n)) (10 ∷ []) (s .pre .1))
 
--- src/writing.rt:111:5
 put-byte-requires : tie.Need-put-byte-requires
 unfolding refused-line
 put-byte-requires c κs = let s = c .before .before .before .before .before .before .before in room-then (s .args .out .now) 0 (labelled refused-word (s .args .n)) (10 ∷ []) (s .pre .1) _ _ (c .before .before .before .put-labelled .ensures)
 
--- src/writing.rt:106:1
 same-length : tie.Need-same-length
 same-length c = search needs
 
--- src/writing.rt:106:1
 returns : tie.Need-returns
 unfolding refused-line
 returns c = let s = c .before .before .before .before .before .before .before .before .before .before in puts-then (s .args .out .now) 0 (labelled refused-word (s .args .n)) (10 ∷ []) (c .before .before .before .before .before .before .put-labelled .ensures) (c .before .before .put-byte .ensures)

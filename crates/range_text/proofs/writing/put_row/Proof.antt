@@ -13,21 +13,17 @@ use Rattle.range_text.proofs.writing.put_row.Lts as lts
 use Rattle.range_text.proofs.writing.put_byte.Reads as put-byte-reads
 use Rattle.range_text.proofs.writing.put_number.Reads as put-number-reads
 
--- src/writing.rt:80:9
 put-number-requires : tie.Need-put-number-requires
 unfolding row-line
 put-number-requires c κs = let s = c .before .before in (s .pre .0, room-first (s .args .out .now) (s .args .at) (decimal (s .args .n)) (10 ∷ []) (s .pre .1))
 
--- src/writing.rt:81:5
 put-byte-requires : tie.Need-put-byte-requires
 unfolding row-line
 put-byte-requires c κs = let s = c .before .before .before .before .before .before in room-then (s .args .out .now) (s .args .at) (decimal (s .args .n)) (10 ∷ []) (s .pre .1) _ _ (c .before .before .before .put-number .ensures)
 
--- src/writing.rt:76:1
 same-length : tie.Need-same-length
 same-length c = search needs
 
--- src/writing.rt:76:1
 returns : tie.Need-returns
 unfolding row-line
 returns c = let s = c .before .before .before .before .before .before .before .before .before in puts-then (s .args .out .now) (s .args .at) (decimal (s .args .n)) (10 ∷ []) (c .before .before .before .before .before .before .put-number .ensures) (c .before .before .put-byte .ensures)

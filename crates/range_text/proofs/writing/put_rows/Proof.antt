@@ -20,23 +20,18 @@ Inv-loop out₀ at rows here₀ i₀ out here i = (i ≤ length rows) × Rest ou
 abbrev μ-loop : tie.MeasureT-loop
 μ-loop out₀ at rows here₀ i₀ out here i = length rows - i
 
--- src/writing.rt:98:5
 loop-holds : tie.Need-loop-holds Inv-loop μ-loop
 loop-holds c = let a = c .before .before .args in (omega arith, rest-starts (a .out .now) (a .at) (row-lines (a .rows .now)))
 
--- src/writing.rt:99:46
 mul-wide : tie.Need-mul-wide Inv-loop μ-loop
 mul-wide c = omega arith
 
--- src/writing.rt:99:46
 shared-slice-read-wide : tie.Need-shared-slice-read-wide Inv-loop μ-loop
 shared-slice-read-wide c = omega arith
 
--- src/writing.rt:99:41
 wide-requires : tie.Need-wide-requires Inv-loop μ-loop
 wide-requires c κs = search needs
 
--- src/writing.rt:99:9
 put-row-requires : tie.Need-put-row-requires Inv-loop μ-loop
 put-row-requires c κs =
     let s = c .before .before .before .before .before .before .before in
@@ -44,15 +39,12 @@ put-row-requires c κs =
     let l = c .before .before .before .before .loop in
     rw (c .wide .ensures) (s .pre .0 (l .i), rest-room (l .inv .1) (row-line (getD rows (l .i) 0)) (row-lines (drop (l .i + 1) rows)) (rows-more rows (l .i) (c .before .before .before .loop-test .taken)) (s .pre .1))
 
--- src/writing.rt:100:9
 add-i : tie.Need-add-i Inv-loop μ-loop
 add-i c = omega arith
 
--- src/writing.rt:98:5
 loop-less : tie.Need-loop-less Inv-loop μ-loop
 loop-less c = omega arith
 
--- src/writing.rt:98:5
 loop-again : tie.Need-loop-again Inv-loop μ-loop
 loop-again c =
     let rows = c .before .before .before .before .before .before .before .before .before .before .args .rows .now in
@@ -60,11 +52,9 @@ loop-again c =
     let u = row-line (getD rows (l .i) 0) in
     (omega arith, rest-next (l .inv .1) u (row-lines (drop (l .i + 1) rows)) (rows-more rows (l .i) (c .before .before .before .before .before .before .loop-test .taken)) (puts-as u (ap row-line (c .before .before .before .wide .ensures)) (c .before .before .put-row .ensures)))
 
--- src/writing.rt:91:1
 same-length : tie.Need-same-length Inv-loop μ-loop
 same-length c = let l = c .before .loop .inv .1 .same in search needs
 
--- src/writing.rt:91:1
 returns : tie.Need-returns Inv-loop μ-loop
 returns c = let l = c .before .loop in let rows = c .before .before .before .before .args .rows .now in rest-ends (l .inv .1) (rows-none rows (l .i) (c .loop-test .left))
 

@@ -13,7 +13,6 @@ use Rattle.range_text.proofs.writing.put_three.Lts as lts
 use Rattle.range_text.proofs.writing.put_byte.Reads as put-byte-reads
 use Rattle.range_text.proofs.writing.put_labelled.Reads as put-labelled-reads
 
--- src/writing.rt:70:9
 put-labelled-requires : tie.Need-put-labelled-requires
 unfolding three
 put-labelled-requires c κs =
@@ -26,7 +25,6 @@ put-labelled-requires c κs =
     let m = s .pre .3 in
     (s .pre .0, room-first o p u v (room-first o p (u ++ v) w (room-first o p (u ++ v ++ w) (10 ∷ []) m)))
 
--- src/writing.rt:71:9
 put-labelled-requires-2 : tie.Need-put-labelled-requires-2
 unfolding three
 put-labelled-requires-2 c κs =
@@ -39,7 +37,6 @@ put-labelled-requires-2 c κs =
     let m = s .pre .3 in
     (s .pre .1, room-then o p u v (room-first o p (u ++ v) w (room-first o p (u ++ v ++ w) (10 ∷ []) m)) _ _ (c .before .before .before .put-labelled .ensures))
 
--- src/writing.rt:72:9
 put-labelled-requires-3 : tie.Need-put-labelled-requires-3
 unfolding three
 put-labelled-requires-3 c κs =
@@ -52,7 +49,6 @@ put-labelled-requires-3 c κs =
     let m = s .pre .3 in
     (s .pre .2, room-then o p (u ++ v) w (room-first o p (u ++ v ++ w) (10 ∷ []) m) _ _ (puts-then o p u v (c .before .before .before .before .before .before .before .put-labelled .ensures) (c .before .before .before .put-labelled2 .ensures)))
 
--- src/writing.rt:73:5
 put-byte-requires : tie.Need-put-byte-requires
 unfolding three
 put-byte-requires c κs =
@@ -65,11 +61,9 @@ put-byte-requires c κs =
     let m = s .pre .3 in
     room-then o p (u ++ v ++ w) (10 ∷ []) m _ _ (puts-then o p (u ++ v) w (puts-then o p u v (c .before .before .before .before .before .before .before .before .before .before .before .put-labelled .ensures) (c .before .before .before .before .before .before .before .put-labelled2 .ensures)) (c .before .before .before .put-labelled3 .ensures))
 
--- src/writing.rt:57:1
 same-length : tie.Need-same-length
 same-length c = search needs
 
--- src/writing.rt:57:1
 returns : tie.Need-returns
 unfolding three
 returns c =

@@ -17,46 +17,36 @@ Inv-loop out₀ at word i₀ out i = (i ≤ length word) × (length out ≡ leng
 abbrev μ-loop : tie.MeasureT-loop
 μ-loop out₀ at word i₀ out i = length word - i
 
--- src/writing.rt:22:5
 loop-holds : tie.Need-loop-holds Inv-loop μ-loop
 loop-holds c = let a = c .args in let q : a .at + 0 ≡ a .at = omega arith in (omega arith, refl, ap (λ (k : ℕ). sets (a .out .now) k (a .word .now)) q)
 
--- src/writing.rt:23:23
 shared-slice-read-out : tie.Need-shared-slice-read-out Inv-loop μ-loop
 shared-slice-read-out c = omega arith
 
--- src/writing.rt:23:13
 add-out : tie.Need-add-out Inv-loop μ-loop
 add-out c = omega arith
 
--- src/writing.rt:23:9
 slice-write-out : tie.Need-slice-write-out Inv-loop μ-loop
 slice-write-out c = omega arith
 
--- src/writing.rt:24:9
 add-i : tie.Need-add-i Inv-loop μ-loop
 add-i c = omega arith
 
--- src/writing.rt:22:5
 loop-less : tie.Need-loop-less Inv-loop μ-loop
 loop-less c = omega arith
 
--- src/writing.rt:22:5
 loop-again : tie.Need-loop-again Inv-loop μ-loop
 loop-again c =
     let a = c .before .before .before .args in
     let l = c .before .before .loop in
     (omega arith, length-set (l .out) (a .at + l .i) (getD (a .word .now) (l .i) 0) ∙ l .inv .1, word-next (l .out) (sets (a .out .now) (a .at) (a .word .now)) (a .word .now) (a .at) (l .i) (c .before .loop-test .taken) (l .inv .2))
 
--- src/writing.rt:26:5
 add-result : tie.Need-add-result Inv-loop μ-loop
 add-result c = omega arith
 
--- src/writing.rt:17:1
 same-length : tie.Need-same-length Inv-loop μ-loop
 same-length c = search needs
 
--- src/writing.rt:17:1
 returns : tie.Need-returns Inv-loop μ-loop
 returns c =
     let a = c .before .before .args in

@@ -26,35 +26,27 @@ Inv-loop rows₀ column imprints dictionary ask at₀ e₀ i₀ c₀ rows at e i
 abbrev μ-loop : tie.MeasureT-loop
 μ-loop rows₀ column imprints dictionary ask at₀ e₀ i₀ c₀ rows at e i c = length dictionary - e
 
--- src/listed.rt:121:5
 loop-holds : tie.Need-loop-holds Inv-loop μ-loop
 loop-holds c = let s = c .before .before .before in let a = s .args in filling-starts (asked-of (a .ask)) (a .column .now) (a .dictionary .now) (a .imprints .now) (a .rows .now) (s .pre .0)
 
--- src/listed.rt:122:17
 mul-d : tie.Need-mul-d Inv-loop μ-loop
 mul-d c = search needs
 
--- src/listed.rt:122:17
 shared-slice-read-d : tie.Need-shared-slice-read-d Inv-loop μ-loop
 shared-slice-read-d c = omega arith
 
--- src/listed.rt:123:55
 mul-fill-entry : tie.Need-mul-fill-entry Inv-loop μ-loop
 mul-fill-entry c = omega (arith, c .before .before .before .loop .inv .going .few-imprints)
 
--- src/listed.rt:123:55
 sub-fill-entry : tie.Need-sub-fill-entry Inv-loop μ-loop
 sub-fill-entry c = omega (arith, c .before .before .before .loop .inv .going .few-imprints)
 
--- src/listed.rt:123:55
 part-fill-entry-start : tie.Need-part-fill-entry-start Inv-loop μ-loop
 part-fill-entry-start c = omega (arith, c .before .before .before .loop .inv .going .few-imprints)
 
--- src/listed.rt:123:55
 part-fill-entry-end : tie.Need-part-fill-entry-end Inv-loop μ-loop
 part-fill-entry-end c = omega (arith, c .before .before .before .loop .inv .going .few-imprints)
 
--- src/listed.rt:123:9
 fill-entry-requires : tie.Need-fill-entry-requires Inv-loop μ-loop
 fill-entry-requires c κs =
     let s = c .before .before .before .before .before .before .before .before in
@@ -68,11 +60,9 @@ fill-entry-requires c κs =
     let r = filling-room q (a .column .now) (a .dictionary .now) (a .imprints .now) (a .rows .now) (l .e) (l .i) (l .c) (l .rows) (l .at) (l .inv) t (s .pre .3) in
     (omega (arith, r, ap (λ (m : List ℕ). length (through readings q (a .column .now) (l .c) (entry-lines d m) .ids)) p), omega (arith, x .in-lines, s .pre .1), s .pre .2, omega (arith, x .has-imprints, ap length p, length-drop (l .i) (a .imprints .now)))
 
--- src/listed.rt:124:14
 kept-by-requires : tie.Need-kept-by-requires Inv-loop μ-loop
 kept-by-requires c κs = search needs
 
--- src/listed.rt:124:9
 add-i : tie.Need-add-i Inv-loop μ-loop
 add-i c =
     let s = c .before .before .before .before .before .before .before .before .before .before .before .before in
@@ -80,15 +70,12 @@ add-i c =
     let x = going-next (s .args .dictionary .now) (s .args .imprints .now) (l .e) (l .i) (l .c) (l .inv .going) (c .before .before .before .before .before .before .before .loop-test .taken) in
     omega (arith, x .has-imprints, c .kept-by .ensures, s .good)
 
--- src/listed.rt:125:14
 count-of-requires : tie.Need-count-of-requires Inv-loop μ-loop
 count-of-requires c κs = search needs
 
--- src/listed.rt:125:14
 cast-c : tie.Need-cast-c Inv-loop μ-loop
 cast-c c = omega (arith, c .count-of .ensures)
 
--- src/listed.rt:125:9
 add-c : tie.Need-add-c Inv-loop μ-loop
 add-c c =
     let s = c .before .before .before .before .before .before .before .before .before .before .before .before .before in
@@ -96,15 +83,12 @@ add-c c =
     let x = going-next (s .args .dictionary .now) (s .args .imprints .now) (l .e) (l .i) (l .c) (l .inv .going) (c .before .before .before .before .before .before .before .before .loop-test .taken) in
     omega (arith, x .in-lines, c .count-of .ensures, s .pre .1)
 
--- src/listed.rt:126:9
 add-e : tie.Need-add-e Inv-loop μ-loop
 add-e c = omega (arith, c .before .before .before .before .before .before .before .before .loop-test .taken)
 
--- src/listed.rt:121:5
 loop-less : tie.Need-loop-less Inv-loop μ-loop
 loop-less c = omega (arith, c .before .before .before .before .before .before .before .before .loop-test .taken)
 
--- src/listed.rt:121:5
 loop-again : tie.Need-loop-again Inv-loop μ-loop
 loop-again c =
     let a = c .before .before .before .before .before .before .before .before .before .before .before .before .before .args in
@@ -115,11 +99,9 @@ loop-again c =
     let f = c .before .before .before .before .fill-entry in
     rw (c .before .kept-by .ensures, c .count-of .ensures) (filling-next q (a .column .now) (a .dictionary .now) (a .imprints .now) (a .rows .now) (l .e) (l .i) (l .c) (l .rows) (l .at) (l .inv) (c .before .before .before .before .before .before .before .before .loop-test .taken) (f .last .0) (f .ensures .0 ∙ ap (sets (l .rows) (l .at)) p) (f .result) (f .ensures .1 ∙ ap (λ (m : List ℕ). l .at + length m) p))
 
--- src/listed.rt:113:1
 same-length : tie.Need-same-length Inv-loop μ-loop
 same-length c = c .before .loop .inv .listing .long
 
--- src/listed.rt:113:1
 returns : tie.Need-returns Inv-loop μ-loop
 returns c =
     let a = c .before .before .before .before .before .args in

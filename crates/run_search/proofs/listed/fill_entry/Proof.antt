@@ -22,15 +22,12 @@ use Rattle.run_search.proofs.listed.fill_run.Reads as fill-run-reads
 use Rattle.dictionary.proofs.count_of.Reads as count-of-reads
 use Rattle.dictionary.proofs.is_repeat.Reads as is-repeat-reads
 
--- src/listed.rt:105:13
 count-of-requires : tie.Need-count-of-requires
 count-of-requires c κs = search needs
 
--- src/listed.rt:105:13
 cast-n : tie.Need-cast-n
 cast-n c = search needs
 
--- src/listed.rt:106:8
 -- the mark, as a repeat entry and a plain one have it
 marked : (c : tie.Then1) → repeated (c .before .before .before .before .before .args .d) ≡ true
 marked c = sym (c .before .is-repeat .ensures) ∙ c .if1 .taken
@@ -59,21 +56,17 @@ few c = omega (arith, c .before .before .before .before .before .pre .3, kept-pl
 is-repeat-requires : tie.Need-is-repeat-requires
 is-repeat-requires c κs = search needs
 
--- src/listed.rt:107:52
 shared-slice-read-fill-run : tie.Need-shared-slice-read-fill-run
 shared-slice-read-fill-run c = omega (arith, c .before .before .before .before .before .before .before .pre .3, kept-repeat (c .before .before .before .before .before .before .before .args .d) (marked (c .before .before)))
 
--- src/listed.rt:107:9
 fill-run-requires : tie.Need-fill-run-requires
 fill-run-requires c κs =
     let s = c .before .before .before .before .before .before .before in
     (omega (arith, s .pre .0, ap (λ (x : Answer). length (x .ids)) (as-run (c .before .before))), omega (arith, s .pre .1, c .before .before .before .before .count-of .ensures), s .pre .2)
 
--- src/listed.rt:107:9
 same-length : tie.Need-same-length
 same-length c = search needs
 
--- src/listed.rt:107:9
 returns : tie.Need-returns
 returns c =
     let a = c .before .before .before .before .before .before .before .before .before .before .args in
@@ -81,11 +74,9 @@ returns c =
     let i = ap (λ (x : Answer). x .ids) (as-run (c .before .before .before .before .before)) in
     (e .0 ∙ ap (sets (a .rows .now) (a .at)) i, e .1 ∙ ap (λ (l : List ℕ). a .at + length l) i)
 
--- src/listed.rt:109:40
 slice-aggregate-fill-plain : tie.Need-slice-aggregate-fill-plain
 slice-aggregate-fill-plain c = sym (length-take-le (c .before .before .before .before .count-of .result) (c .before .before .before .before .before .before .before .args .imprints .now) (few (c .before .before)))
 
--- src/listed.rt:109:5
 fill-plain-requires : tie.Need-fill-plain-requires
 fill-plain-requires c κs =
     let s = c .before .before .before .before .before .before .before in
@@ -94,11 +85,9 @@ fill-plain-requires c κs =
     let e = as-plain (c .before .before) in
     (omega (arith, s .pre .0, ap (λ (l : List ℕ). length (through readings (asked-of (a .ask)) (a .column .now) (a .line .0) l .ids)) e), omega (arith, s .pre .1, length-take-le n (a .imprints .now) (few (c .before .before)), c .before .before .before .before .count-of .ensures), s .pre .2)
 
--- src/listed.rt:101:1
 same-length-2 : tie.Need-same-length-2
 same-length-2 c = search needs
 
--- src/listed.rt:101:1
 returns-2 : tie.Need-returns-2
 returns-2 c =
     let a = c .before .before .before .before .before .before .before .before .before .before .args in

@@ -26,23 +26,18 @@ Inv-loop rows₀ at part ask a n₀ i₀ rows n i = (i ≤ length part) × Listi
 abbrev μ-loop : tie.MeasureT-loop
 μ-loop rows₀ at part ask a n₀ i₀ rows n i = length part - i
 
--- src/listed.rt:54:5
 loop-holds : tie.Need-loop-holds Inv-loop μ-loop
 loop-holds c = let a = c .before .args in (omega arith, scan-starts readings (a .ask .low) (a .ask .high) (a .part .now) (a .rows .now) (a .at) (a .first .0))
 
--- src/listed.rt:55:34
 add-t9 : tie.Need-add-t9 Inv-loop μ-loop
 add-t9 c = omega (arith, c .before .loop-test .taken)
 
--- src/listed.rt:55:42
 mul-put-row : tie.Need-mul-put-row Inv-loop μ-loop
 mul-put-row c = search needs
 
--- src/listed.rt:55:42
 shared-slice-copy-out-put-row : tie.Need-shared-slice-copy-out-put-row Inv-loop μ-loop
 shared-slice-copy-out-put-row c = omega (arith, c .before .loop-test .taken)
 
--- src/listed.rt:55:9
 -- the rows still to come, from this turn on
 turned : (c : tie.After-put-row-arg2 Inv-loop μ-loop) → scan readings (c .before .before .before .before .before .args .ask .low) (c .before .before .before .before .before .args .ask .high) (c .before .before .before .before .before .args .first .0 + c .before .before .before .loop .i) (drop (c .before .before .before .loop .i) (c .before .before .before .before .before .args .part .now)) ≡ cond (matches readings (c .before .before .before .before .before .args .ask .low) (c .before .before .before .before .before .args .ask .high) (toZ w32 (ofZ w32 (getD (c .before .before .before .before .before .args .part .now) (c .before .before .before .loop .i) (pos 0))))) ((c .before .before .before .before .before .args .first .0 + c .before .before .before .loop .i) ∷ []) [] ++ scan readings (c .before .before .before .before .before .args .ask .low) (c .before .before .before .before .before .args .ask .high) (c .before .before .before .before .before .args .first .0 + (c .before .before .before .loop .i + 1)) (drop (c .before .before .before .loop .i + 1) (c .before .before .before .before .before .args .part .now))
 turned c =
@@ -66,15 +61,12 @@ put-row-requires c κs =
     let r : l .n + length rest ≤ length (l .rows) = listing-room (a .rows .now) (a .at) all (l .rows) (l .n) rest (l .inv .1) (s .pre .0) in
     (omega (arith, c .before .before .loop-test .taken, s .pre .1), λ e. roomy (a .first .0 + l .i) (l .n) (length (l .rows)) rest (scan readings (a .ask .low) (a .ask .high) (a .first .0 + (l .i + 1)) (drop (l .i + 1) (a .part .now))) _ (turned c) e r, omega arith)
 
--- src/listed.rt:56:9
 add-i : tie.Need-add-i Inv-loop μ-loop
 add-i c = omega (arith, c .before .before .before .before .before .loop-test .taken)
 
--- src/listed.rt:54:5
 loop-less : tie.Need-loop-less Inv-loop μ-loop
 loop-less c = omega (arith, c .before .before .before .before .before .loop-test .taken)
 
--- src/listed.rt:54:5
 loop-again : tie.Need-loop-again Inv-loop μ-loop
 loop-again c =
     let a = c .before .before .before .before .before .before .before .before .args in
@@ -83,11 +75,9 @@ loop-again c =
     let e = c .before .before .put-row .ensures in
     (omega (arith, c .before .before .before .before .before .loop-test .taken), listing-next (a .rows .now) (a .at) (scan readings (a .ask .low) (a .ask .high) (a .first .0) (a .part .now)) (l .rows) (l .n) (scan readings (a .ask .low) (a .ask .high) (a .first .0 + l .i) (drop (l .i) (a .part .now))) (l .inv .1) (cond (matches readings (a .ask .low) (a .ask .high) (toZ w32 (ofZ w32 (getD (a .part .now) (l .i) (pos 0))))) ((a .first .0 + l .i) ∷ []) []) (scan readings (a .ask .low) (a .ask .high) (a .first .0 + (l .i + 1)) (drop (l .i + 1) (a .part .now))) t (c .before .before .put-row .last .0) (e .0) (c .before .before .put-row .result) (e .1))
 
--- src/listed.rt:47:1
 same-length : tie.Need-same-length Inv-loop μ-loop
 same-length c = c .before .loop .inv .1 .long
 
--- src/listed.rt:47:1
 returns : tie.Need-returns Inv-loop μ-loop
 returns c =
     let a = c .before .before .before .args in

@@ -21,23 +21,18 @@ Inv-loop rows₀ at column imprints ask first n₀ i₀ rows n i =
 abbrev μ-loop : tie.MeasureT-loop
 μ-loop rows₀ at column imprints ask first n₀ i₀ rows n i = length imprints - i
 
--- src/listed.rt:93:5
 loop-holds : tie.Need-loop-holds Inv-loop μ-loop
 loop-holds c = let a = c .before .before .args in (omega arith, through-starts readings (asked-of (a .ask)) (a .column .now) (a .imprints .now) (a .rows .now) (a .at) (a .line .0))
 
--- src/listed.rt:94:44
 add-t10 : tie.Need-add-t10 Inv-loop μ-loop
 add-t10 c = omega (arith, c .before .loop-test .taken, c .before .before .before .before .before .pre .1)
 
--- src/listed.rt:94:59
 mul-fill-run : tie.Need-mul-fill-run Inv-loop μ-loop
 mul-fill-run c = search needs
 
--- src/listed.rt:94:59
 shared-slice-read-fill-run : tie.Need-shared-slice-read-fill-run Inv-loop μ-loop
 shared-slice-read-fill-run c = omega (arith, c .before .before .loop-test .taken)
 
--- src/listed.rt:94:9
 fill-run-requires : tie.Need-fill-run-requires Inv-loop μ-loop
 fill-run-requires c κs =
     let s = c .before .before .before .before .before .before in
@@ -50,15 +45,12 @@ fill-run-requires c κs =
     let r = listing-room (a .rows .now) (a .at) (through readings q (a .column .now) (a .line .0) (a .imprints .now) .ids) (l .rows) (l .n) (through readings q (a .column .now) (a .line .0 + l .i) (drop (l .i) (a .imprints .now)) .ids) (l .inv .1) (s .pre .0) in
     (omega (arith, r, ap length t, length-append one more), omega (arith, c .before .before .loop-test .taken, s .pre .1), s .pre .2)
 
--- src/listed.rt:95:9
 add-i : tie.Need-add-i Inv-loop μ-loop
 add-i c = omega (arith, c .before .before .before .before .before .loop-test .taken)
 
--- src/listed.rt:93:5
 loop-less : tie.Need-loop-less Inv-loop μ-loop
 loop-less c = omega (arith, c .before .before .before .before .before .loop-test .taken)
 
--- src/listed.rt:93:5
 loop-again : tie.Need-loop-again Inv-loop μ-loop
 loop-again c =
     let a = c .before .before .before .before .before .before .before .before .before .args in
@@ -67,11 +59,9 @@ loop-again c =
     let e = c .before .before .fill-run .ensures in
     (omega (arith, c .before .before .before .before .before .loop-test .taken), listing-next (a .rows .now) (a .at) (through readings q (a .column .now) (a .line .0) (a .imprints .now) .ids) (l .rows) (l .n) (through readings q (a .column .now) (a .line .0 + l .i) (drop (l .i) (a .imprints .now)) .ids) (l .inv .1) (run-at readings q (a .column .now) (getD (a .imprints .now) (l .i) 0) (a .line .0 + l .i) 1 .ids) (through readings q (a .column .now) (a .line .0 + (l .i + 1)) (drop (l .i + 1) (a .imprints .now)) .ids) (lines-ids readings q (a .column .now) (a .line .0) (a .imprints .now) (l .i) (c .before .before .before .before .before .loop-test .taken)) (c .before .before .fill-run .last .0) (e .0) (c .before .before .fill-run .result) (e .1))
 
--- src/listed.rt:86:1
 same-length : tie.Need-same-length Inv-loop μ-loop
 same-length c = c .before .loop .inv .1 .long
 
--- src/listed.rt:86:1
 returns : tie.Need-returns Inv-loop μ-loop
 returns c =
     let a = c .before .before .before .before .args in

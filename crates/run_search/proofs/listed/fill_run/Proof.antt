@@ -24,15 +24,12 @@ use Rattle.run_search.proofs.listed.fill_whole.Reads as fill-whole-read
 use Rattle.run_search.proofs.listed.first_row.Reads as first-row-reads
 use Rattle.run_search.proofs.rows.lines_of.Reads as lines-of-reads
 
--- src/listed.rt:74:9
 lines-of-requires : tie.Need-lines-of-requires
 lines-of-requires c κs = search needs
 
--- src/listed.rt:75:11
 fate-of-requires : tie.Need-fate-of-requires
 fate-of-requires c κs = search needs
 
--- src/listed.rt:76:26
 -- what `fate_of` says, among all 64 bits
 fated : (c : tie.After-fate-of) → fate-in (asked-of (c .before .before .before .args .ask)) (c .before .before .before .args .imprint) ≡ c .fate-of .result
 fated c = sym (c .fate-of .ensures 64 (c .before .before .before .fits .imprint .fits))
@@ -40,15 +37,12 @@ fated c = sym (c .fate-of .ensures 64 (c .before .before .before .fits .imprint 
 enum-told : tie.Need-enum-told
 enum-told c = search needs
 
--- src/listed.rt:78:24
 enum-told-2 : tie.Need-enum-told-2
 enum-told-2 c = search needs
 
--- src/listed.rt:78:34
 first-row-requires : tie.Need-first-row-requires
 first-row-requires c κs = search needs
 
--- src/listed.rt:78:13
 fill-whole-requires : tie.Need-fill-whole-requires
 fill-whole-requires c κs =
     let s = c .before .before .before .before .before .before .before in
@@ -58,19 +52,15 @@ fill-whole-requires c κs =
     let n = length (values readings (a .column .now) (a .line .0) (a .n)) in
     (omega (arith, s .pre .0, e, i, length-from n (16 * a .line .0)), omega (arith, rows-end (a .column .now) (a .line .0) (a .n) (omega (arith, s .pre .1)) (s .pre .2), e, c .first-row .ensures))
 
--- src/listed.rt:79:13
 add-result : tie.Need-add-result
 add-result c = search needs
 
--- src/listed.rt:81:40
 enum-told-3 : tie.Need-enum-told-3
 enum-told-3 c = search needs
 
--- src/listed.rt:81:56
 first-row-requires-2 : tie.Need-first-row-requires-2
 first-row-requires-2 c κs = search needs
 
--- src/listed.rt:81:27
 fill-matches-requires : tie.Need-fill-matches-requires
 fill-matches-requires c κs =
     let s = c .before .before .before .before .before .before .before in
@@ -80,18 +70,15 @@ fill-matches-requires c κs =
     let m = ap₂ (λ (r : ℕ) (l : List ℤ). length (scan readings (a .ask .low) (a .ask .high) r l)) (c .first-row2 .ensures) e in
     (omega (arith, s .pre .0, m, i), omega (arith, rows-end (a .column .now) (a .line .0) (a .n) (omega (arith, s .pre .1)) (s .pre .2), ap length e, c .first-row2 .ensures))
 
--- src/listed.rt:70:1
 returns : tie.Need-returns
 returns c =
     let a = c .before .before .before .before .before .args in
     let i = skipped-ids readings (asked-of (a .ask)) (a .column .now) (a .imprint) (a .line .0) (a .n) (fated (c .before .before) ∙ c .enum-told .given .1) in
     (sym (ap (sets (a .rows .now) (a .at)) i), sym (ap (λ (l : List ℕ). a .at + length l) i ∙ add-zero (a .at)))
 
--- src/listed.rt:70:1
 same-length : tie.Need-same-length
 same-length c = search needs
 
--- src/listed.rt:70:1
 returns-2 : tie.Need-returns-2
 returns-2 c =
     let a = c .before .before .before .before .before .before .before .before .before .before .args in
@@ -100,11 +87,9 @@ returns-2 c =
     let n = length (values readings (a .column .now) (a .line .0) (a .n)) in
     (c .before .before .fill-whole .ensures ∙ ap₂ (λ (r m : ℕ). sets (a .rows .now) (a .at) (from r m)) (c .before .before .before .first-row .ensures) e ∙ ap (sets (a .rows .now) (a .at)) (sym i), omega (arith, e, ap length i, length-from n (16 * a .line .0)))
 
--- src/listed.rt:70:1
 same-length-2 : tie.Need-same-length-2
 same-length-2 c = search needs
 
--- src/listed.rt:70:1
 returns-3 : tie.Need-returns-3
 returns-3 c =
     let a = c .before .before .before .before .before .before .before .before .before .before .args in

@@ -19,39 +19,30 @@ Inv-loop rows₀ at n a i₀ rows i = (i ≤ n) × Listing rows₀ at (from a n)
 abbrev μ-loop : tie.MeasureT-loop
 μ-loop rows₀ at n a i₀ rows i = n - i
 
--- src/listed.rt:25:5
 loop-holds : tie.Need-loop-holds Inv-loop μ-loop
 loop-holds c = let a = c .args in (omega arith, from-starts (a .rows .now) (a .at) (a .first .0) (a .n))
 
--- src/listed.rt:26:25
 add-rows : tie.Need-add-rows Inv-loop μ-loop
 add-rows c = omega arith
 
--- src/listed.rt:26:24
 cast-rows : tie.Need-cast-rows Inv-loop μ-loop
 cast-rows c = omega arith
 
--- src/listed.rt:26:14
 add-rows-2 : tie.Need-add-rows-2 Inv-loop μ-loop
 add-rows-2 c = omega (arith, c .before .before .good)
 
--- src/listed.rt:26:9
 mul-rows : tie.Need-mul-rows Inv-loop μ-loop
 mul-rows c = omega (arith, c .before .loop .inv .1 .long)
 
--- src/listed.rt:26:9
 slice-write-rows : tie.Need-slice-write-rows Inv-loop μ-loop
 slice-write-rows c = omega (arith, c .before .loop .inv .1 .long)
 
--- src/listed.rt:27:9
 add-i : tie.Need-add-i Inv-loop μ-loop
 add-i c = omega arith
 
--- src/listed.rt:25:5
 loop-less : tie.Need-loop-less Inv-loop μ-loop
 loop-less c = omega arith
 
--- src/listed.rt:25:5
 loop-again : tie.Need-loop-again Inv-loop μ-loop
 loop-again c =
     let a = c .before .before .args in
@@ -61,11 +52,9 @@ loop-again c =
     let e : a .at + (l .i + 1) ≡ at + 1 = omega arith in
     (omega arith, listing-next (a .rows .now) (a .at) (from (a .first .0) (a .n)) (l .rows) at (from v (a .n - l .i)) (l .inv .1) (v ∷ []) (from (a .first .0 + (l .i + 1)) (a .n - (l .i + 1))) (from-turn (a .first .0) (a .n) (l .i) (c .loop-test .taken)) (sets (l .rows) at (v ∷ [])) refl (a .at + (l .i + 1)) e)
 
--- src/listed.rt:19:1
 same-length : tie.Need-same-length Inv-loop μ-loop
 same-length c = c .before .loop .inv .1 .long
 
--- src/listed.rt:19:1
 returns : tie.Need-returns Inv-loop μ-loop
 returns c =
     let a = c .before .before .args in

@@ -17,11 +17,9 @@ use Rattle.run_search.proofs.listed.put_row.Reads as reads
 use Rattle.run_search.proofs.listed.put_row.Lts as lts
 use Rattle.bins.proofs.in_range.Reads as in-range-reads
 
--- src/listed.rt:36:8
 in-range-requires : tie.Need-in-range-requires
 in-range-requires c κs = search needs
 
--- src/listed.rt:37:20
 -- what `in_range` says, of the range's own ends and the value
 tested : (c : tie.After-in-range) → matches readings (c .before .before .before .before .args .ask .low) (c .before .before .before .before .args .ask .high) (c .before .before .before .before .args .v) ≡ c .in-range .result
 tested c =
@@ -34,27 +32,21 @@ tested c =
 cast-rows : tie.Need-cast-rows
 cast-rows c = search needs
 
--- src/listed.rt:37:9
 mul-rows : tie.Need-mul-rows
 mul-rows c = search needs
 
--- src/listed.rt:37:9
 slice-write-rows : tie.Need-slice-write-rows
 slice-write-rows c = c .before .before .before .before .before .before .pre .1 (tested (c .before .before) ∙ c .before .if1 .taken)
 
--- src/listed.rt:38:16
 add-result : tie.Need-add-result
 add-result c = search needs
 
--- src/listed.rt:38:9
 same-length : tie.Need-same-length
 same-length c = search needs
 
--- src/listed.rt:38:9
 returns : tie.Need-returns
 returns c = let e = tested (c .before .before) ∙ c .before .if1 .taken in (rw e refl, rw e refl)
 
--- src/listed.rt:32:1
 returns-2 : tie.Need-returns-2
 returns-2 c = let e = tested (c .before) ∙ c .if1 .left in (rw e refl, rw e (omega arith))
 

@@ -25,35 +25,27 @@ Inv-loop column imprints dictionary ask so-far₀ e₀ i₀ c₀ so-far e i c = 
 abbrev μ-loop : tie.MeasureT-loop
 μ-loop column imprints dictionary ask so-far₀ e₀ i₀ c₀ so-far e i c = length dictionary - e
 
--- src/rows.rt:160:5
 loop-holds : tie.Need-loop-holds Inv-loop μ-loop
 loop-holds c = let a = c .before .before .args in counting-starts (asked-of (a .ask)) (a .column .now) (a .dictionary .now) (a .imprints .now) (c .before .before .pre .0)
 
--- src/rows.rt:161:17
 mul-d : tie.Need-mul-d Inv-loop μ-loop
 mul-d c = search needs
 
--- src/rows.rt:161:17
 shared-slice-read-d : tie.Need-shared-slice-read-d Inv-loop μ-loop
 shared-slice-read-d c = omega arith
 
--- src/rows.rt:162:58
 mul-count-entry : tie.Need-mul-count-entry Inv-loop μ-loop
 mul-count-entry c = omega (arith, c .before .before .loop .inv .going .few-imprints)
 
--- src/rows.rt:162:58
 sub-count-entry : tie.Need-sub-count-entry Inv-loop μ-loop
 sub-count-entry c = omega (arith, c .before .before .loop .inv .going .few-imprints)
 
--- src/rows.rt:162:58
 part-count-entry-start : tie.Need-part-count-entry-start Inv-loop μ-loop
 part-count-entry-start c = omega (arith, c .before .before .loop .inv .going .few-imprints)
 
--- src/rows.rt:162:58
 part-count-entry-end : tie.Need-part-count-entry-end Inv-loop μ-loop
 part-count-entry-end c = omega (arith, c .before .before .loop .inv .going .few-imprints)
 
--- src/rows.rt:162:9
 count-entry-requires : tie.Need-count-entry-requires Inv-loop μ-loop
 count-entry-requires c κs =
     let s = c .before .before .before .before .before .before in
@@ -61,11 +53,9 @@ count-entry-requires c κs =
     let x = going-next (s .args .dictionary .now) (s .args .imprints .now) (l .e) (l .i) (l .c) (l .inv .going) (c .before .before .loop-test .taken) in
     (l .inv .within, omega (arith, x .in-lines, s .pre .1), s .pre .2, omega (arith, x .has-imprints, ap length (part-from (s .args .imprints .now) (l .i)), length-drop (l .i) (s .args .imprints .now)))
 
--- src/rows.rt:163:14
 kept-by-requires : tie.Need-kept-by-requires Inv-loop μ-loop
 kept-by-requires c κs = search needs
 
--- src/rows.rt:163:9
 add-i : tie.Need-add-i Inv-loop μ-loop
 add-i c =
     let s = c .before .before .before .before .before .before .before .before in
@@ -73,15 +63,12 @@ add-i c =
     let x = going-next (s .args .dictionary .now) (s .args .imprints .now) (l .e) (l .i) (l .c) (l .inv .going) (c .before .before .before .before .loop-test .taken) in
     omega (arith, x .has-imprints, c .kept-by .ensures, s .good)
 
--- src/rows.rt:164:14
 count-of-requires : tie.Need-count-of-requires Inv-loop μ-loop
 count-of-requires c κs = search needs
 
--- src/rows.rt:164:14
 cast-c : tie.Need-cast-c Inv-loop μ-loop
 cast-c c = omega (arith, c .count-of .ensures)
 
--- src/rows.rt:164:9
 add-c : tie.Need-add-c Inv-loop μ-loop
 add-c c =
     let s = c .before .before .before .before .before .before .before .before .before in
@@ -89,15 +76,12 @@ add-c c =
     let x = going-next (s .args .dictionary .now) (s .args .imprints .now) (l .e) (l .i) (l .c) (l .inv .going) (c .before .before .before .before .before .loop-test .taken) in
     omega (arith, x .in-lines, c .count-of .ensures, s .pre .1)
 
--- src/rows.rt:165:9
 add-e : tie.Need-add-e Inv-loop μ-loop
 add-e c = omega (arith, c .before .before .before .before .before .loop-test .taken)
 
--- src/rows.rt:160:5
 loop-less : tie.Need-loop-less Inv-loop μ-loop
 loop-less c = omega (arith, c .before .before .before .before .before .loop-test .taken)
 
--- src/rows.rt:160:5
 loop-again : tie.Need-loop-again Inv-loop μ-loop
 loop-again c =
     let a = c .before .before .before .before .before .before .before .before .before .args in
@@ -107,7 +91,6 @@ loop-again c =
     let d = getD (a .dictionary .now) (l .e) 0 in
     rw (c .before .kept-by .ensures, c .count-of .ensures) (counting-next q (a .column .now) (a .dictionary .now) is (l .e) (l .i) (l .c) (l .so-far) (l .inv) (c .before .before .before .before .before .loop-test .taken) (c .before .before .count-entry .result) (c .before .before .count-entry .ensures ∙ ap (λ (m : List ℕ). plus (l .so-far) (through readings q (a .column .now) (l .c) (entry-lines d m))) (part-from is (l .i))))
 
--- src/rows.rt:147:1
 returns : tie.Need-returns Inv-loop μ-loop
 returns c =
     let a = c .before .before .before .before .args in

@@ -21,15 +21,12 @@ use Rattle.run_search.proofs.rows.count_run.Reads as count-run-reads
 use Rattle.dictionary.proofs.count_of.Reads as count-of-reads
 use Rattle.dictionary.proofs.is_repeat.Reads as is-repeat-reads
 
--- src/rows.rt:129:13
 count-of-requires : tie.Need-count-of-requires
 count-of-requires c κs = search needs
 
--- src/rows.rt:129:13
 cast-n : tie.Need-cast-n
 cast-n c = search needs
 
--- src/rows.rt:130:8
 -- the mark, as a repeat entry and a plain one have it
 marked : (c : tie.Then1) → repeated (c .before .before .before .before .args .d) ≡ true
 marked c = sym (c .before .is-repeat .ensures) ∙ c .if1 .taken
@@ -40,15 +37,12 @@ unmarked c = sym (c .before .is-repeat .ensures) ∙ c .if1 .left
 is-repeat-requires : tie.Need-is-repeat-requires
 is-repeat-requires c κs = search needs
 
--- src/rows.rt:131:46
 shared-slice-read-count-run : tie.Need-shared-slice-read-count-run
 shared-slice-read-count-run c = omega (arith, c .before .before .before .before .before .pre .3, kept-repeat (c .before .before .before .before .before .args .d) (marked (c .before)))
 
--- src/rows.rt:131:9
 count-run-requires : tie.Need-count-run-requires
 count-run-requires c κs = search needs
 
--- src/rows.rt:131:9
 returns : tie.Need-returns
 returns c =
     let a = c .before .before .before .before .before .before .args in
@@ -58,14 +52,12 @@ returns c =
     ∙ ap (λ (n : ℕ). plus (a .t) (run-at readings q (a .column .now) w (a .line .0) n)) (c .before .before .before .before .count-of .ensures)
     ∙ ap (plus (a .t)) (sym (through-run readings (a .column .now) q w (count-of (a .d)) (a .line .0)) ∙ ap (through readings q (a .column .now) (a .line .0)) (sym (lines-repeat (a .d) (a .imprints .now) (marked (c .before .before)))))
 
--- src/rows.rt:133:34
 slice-aggregate-count-plain : tie.Need-slice-aggregate-count-plain
 slice-aggregate-count-plain c =
     let s = c .before .before .before .before .before in
     let n = c .before .before .before .count-of .result in
     sym (length-take-le n (s .args .imprints .now) (omega (arith, s .pre .3, kept-plain (s .args .d) (unmarked (c .before)), c .before .before .before .count-of .ensures)))
 
--- src/rows.rt:133:5
 count-plain-requires : tie.Need-count-plain-requires
 count-plain-requires c κs =
     let s = c .before .before .before .before .before in
@@ -73,7 +65,6 @@ count-plain-requires c κs =
     let h : n ≤ length (s .args .imprints .now) = omega (arith, s .pre .3, kept-plain (s .args .d) (unmarked (c .before)), c .before .before .before .count-of .ensures) in
     (s .pre .0, omega (arith, s .pre .1, length-take-le n (s .args .imprints .now) h, c .before .before .before .count-of .ensures), s .pre .2)
 
--- src/rows.rt:125:1
 returns-2 : tie.Need-returns-2
 returns-2 c =
     let a = c .before .before .before .before .before .before .args in

@@ -24,37 +24,29 @@ Inv-loop column imprints ask first so-far₀ i₀ so-far i =
 abbrev μ-loop : tie.MeasureT-loop
 μ-loop column imprints ask first so-far₀ i₀ so-far i = length imprints - i
 
--- src/rows.rt:117:5
 loop-holds : tie.Need-loop-holds Inv-loop μ-loop
 loop-holds c =
     let a = c .before .args in
     (omega arith, subst (λ (n : ℕ). Within (a .t) n) (sym (add-zero (a .line .0))) (c .before .pre .0), ap (λ (n : ℕ). plus (a .t) (through readings (asked-of (a .ask)) (a .column .now) n (a .imprints .now))) (add-zero (a .line .0)))
 
--- src/rows.rt:118:49
 add-t9 : tie.Need-add-t9 Inv-loop μ-loop
 add-t9 c = omega arith
 
--- src/rows.rt:118:64
 mul-count-run : tie.Need-mul-count-run Inv-loop μ-loop
 mul-count-run c = search needs
 
--- src/rows.rt:118:64
 shared-slice-read-count-run : tie.Need-shared-slice-read-count-run Inv-loop μ-loop
 shared-slice-read-count-run c = omega arith
 
--- src/rows.rt:118:9
 count-run-requires : tie.Need-count-run-requires Inv-loop μ-loop
 count-run-requires c κs = (c .before .before .loop .inv .1, omega arith, omega arith)
 
--- src/rows.rt:119:9
 add-i : tie.Need-add-i Inv-loop μ-loop
 add-i c = omega arith
 
--- src/rows.rt:117:5
 loop-less : tie.Need-loop-less Inv-loop μ-loop
 loop-less c = omega arith
 
--- src/rows.rt:117:5
 loop-again : tie.Need-loop-again Inv-loop μ-loop
 loop-again c =
     let a = c .before .before .before .before .before .args in
@@ -65,7 +57,6 @@ loop-again c =
     let e : a .line .0 + l .i + 1 ≡ a .line .0 + (l .i + 1) = omega arith in
     (omega arith, subst (λ (t : Tally). Within t (a .line .0 + (l .i + 1))) (sym (c .count-run .ensures)) (rw e at (run-at-within readings q (a .column .now) (l .so-far) w at 1 (l .inv .1) (values-length (a .column .now) at 1))), ap (λ (t : Tally). plus t (through readings q (a .column .now) (a .line .0 + (l .i + 1)) (drop (l .i + 1) (a .imprints .now)))) (c .count-run .ensures) ∙ plus-then (l .so-far) (run-at readings q (a .column .now) w at 1) (through readings q (a .column .now) (a .line .0 + (l .i + 1)) (drop (l .i + 1) (a .imprints .now))) ∙ ap (plus (l .so-far)) (sym (lines-turn readings q (a .column .now) (a .line .0) (a .imprints .now) (l .i) (c .before .before .loop-test .taken))) ∙ l .inv .2)
 
--- src/rows.rt:110:1
 returns : tie.Need-returns Inv-loop μ-loop
 returns c =
     let a = c .before .before .before .args in

@@ -18,11 +18,9 @@ use Rattle.bins.proofs.fate_of.Reads as fate-of-reads
 use Rattle.run_search.proofs.rows.count_matches.Reads as count-matches-reads
 use Rattle.run_search.proofs.rows.lines_of.Reads as lines-of-reads
 
--- src/rows.rt:81:9
 lines-of-requires : tie.Need-lines-of-requires
 lines-of-requires c κs = search needs
 
--- src/rows.rt:82:11
 fate-of-requires : tie.Need-fate-of-requires
 fate-of-requires c κs = search needs
 
@@ -30,59 +28,46 @@ fate-of-requires c κs = search needs
 fated : (c : tie.After-fate-of) → fate-in (asked-of (c .before .before .args .ask)) (c .before .before .args .imprint) ≡ c .fate-of .result
 fated c = sym (c .fate-of .ensures 64 (c .before .before .fits .imprint .fits))
 
--- src/rows.rt:85:22
 enum-told : tie.Need-enum-told
 enum-told c = search needs
 
--- src/rows.rt:85:22
 add-t10 : tie.Need-add-t10
 add-t10 c = search needs
 
--- src/rows.rt:90:28
 enum-told-2 : tie.Need-enum-told-2
 enum-told-2 c = search needs
 
--- src/rows.rt:90:19
 add-t12 : tie.Need-add-t12
 add-t12 c = search needs
 
--- src/rows.rt:92:20
 add-t13 : tie.Need-add-t13
 add-t13 c = search needs
 
--- src/rows.rt:96:28
 enum-told-3 : tie.Need-enum-told-3
 enum-told-3 c = search needs
 
--- src/rows.rt:96:28
 count-matches-requires : tie.Need-count-matches-requires
 count-matches-requires c κs = let a = c .before .before .before .before .args in omega (arith, ap length (c .before .before .before .lines-of .ensures), values-within (a .column .now) (a .line .0) (a .n))
 
--- src/rows.rt:96:28
 cast-t15 : tie.Need-cast-t15
 cast-t15 c = search needs
 
--- src/rows.rt:96:19
 add-t16 : tie.Need-add-t16
 add-t16 c = search needs
 
--- src/rows.rt:99:23
 add-t18 : tie.Need-add-t18
 add-t18 c = search needs
 
--- src/rows.rt:77:1
 returns : tie.Need-returns
 returns c =
     let a = c .before .before .before .before .before .args in
     skipped-run readings (asked-of (a .ask)) (a .column .now) (a .t) (a .imprint) (a .line .0) (a .n) (fated (c .before .before .before) ∙ c .before .enum-told .given .1)
 
--- src/rows.rt:77:1
 returns-2 : tie.Need-returns-2
 returns-2 c =
     let a = c .before .before .before .before .before .before .args in
     whole-run readings (asked-of (a .ask)) (a .column .now) (a .t) (a .imprint) (a .line .0) (a .n) (length (c .before .before .before .before .before .lines-of .result .now)) (ap length (c .before .before .before .before .before .lines-of .ensures)) (fated (c .before .before .before .before) ∙ c .before .before .enum-told2 .given .1)
 
--- src/rows.rt:77:1
 returns-3 : tie.Need-returns-3
 returns-3 c =
     let a = c .before .before .before .before .before .before .before .args in

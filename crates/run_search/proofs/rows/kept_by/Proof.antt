@@ -8,23 +8,18 @@ use Rattle.run_search.proofs.rows.kept_by.Lts as lts
 use Rattle.dictionary.proofs.count_of.Reads as count-of-reads
 use Rattle.dictionary.proofs.is_repeat.Reads as is-repeat-reads
 
--- src/rows.rt:140:8
 is-repeat-requires : tie.Need-is-repeat-requires
 is-repeat-requires c κs = search needs
 
--- src/rows.rt:141:9
 returns : tie.Need-returns
 returns c = rw (sym (c .before .is-repeat .ensures) ∙ c .if1 .taken)
 
--- src/rows.rt:143:5
 count-of-requires : tie.Need-count-of-requires
 count-of-requires c κs = search needs
 
--- src/rows.rt:143:5
 cast-result : tie.Need-cast-result
 cast-result c = search needs
 
--- src/rows.rt:137:1
 returns-2 : tie.Need-returns-2
 returns-2 c = rw (sym (c .before .before .is-repeat .ensures) ∙ c .before .if1 .left) (c .count-of .ensures)
 

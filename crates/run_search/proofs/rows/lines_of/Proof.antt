@@ -10,35 +10,27 @@ use Rattle.run_search.proofs.rows.lines_of.Reads as reads
 use Rattle.run_search.proofs.rows.lines_of.Lts as lts
 use Rattle.run_search.proofs.rows.row_of.Reads as row-of-reads
 
--- src/rows.rt:69:9
 row-of-requires : tie.Need-row-of-requires
 row-of-requires c κs = search needs
 
--- src/rows.rt:70:40
 add-result : tie.Need-add-result
 add-result c = search needs
 
--- src/rows.rt:70:9
 row-of-requires-2 : tie.Need-row-of-requires-2
 row-of-requires-2 c κs = search needs
 
--- src/rows.rt:73:5
 mul-result : tie.Need-mul-result
 mul-result c = search needs
 
--- src/rows.rt:73:5
 sub-result : tie.Need-sub-result
 sub-result c = search needs
 
--- src/rows.rt:73:5
 part-result-start : tie.Need-part-result-start
 part-result-start c = search needs
 
--- src/rows.rt:73:5
 part-result-end : tie.Need-part-result-end
 part-result-end c = search needs
 
--- src/rows.rt:64:1
 returns : tie.Need-returns
 returns c =
     let a = c .before .before .before .args in
