@@ -25,7 +25,8 @@ use Rattle.dictionary.proofs.IndexLaws.{pack-unpack, accepted-lines}
 use Rattle.dictionary.proofs.PositionLaws.{Sized, entries-sized}
 use Rattle.column_index.specs.Index.{line-count, is-index-for}
 use Rattle.run_search.specs.Search.{Answer, nothing, with-line, search, search-by}
-use Rattle.run_search.specs.Runs.{Asked, asking, fate-in, values, through, entry-kept, Readable}
+use Rattle.dictionary.specs.Entries.{uses}
+use Rattle.run_search.specs.Runs.{Asked, asking, fate-in, values, through, Readable}
 use Rattle.column_index.specs.Promise.{most-rows, checked-answer, search-answer, search-room, search-number, Searches}
 use Rattle.column_index.specs.declared.IndexCheck.{IndexCheck}
 use Rattle.column_index.specs.declared.IndexCheck.the-variants as checking

@@ -7,7 +7,7 @@ ghost use Rattle.dictionary.specs.Dictionary.{unpack};
 ghost use Rattle.dictionary.specs.Entries.{uses, lines-in};
 
 // How many imprints are kept for an entry.
-pub(crate) fn used(d: u32) -> usize
+pub fn used(d: u32) -> usize
     ensures { λ r. ⌜ r ≡ uses d ⌝ }
 {
     if crate::is_repeat(d) {

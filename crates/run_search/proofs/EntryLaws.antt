@@ -12,7 +12,8 @@ use lib.IntN.{ℤ}
 use Rattle.bins.specs.Bins.{Kind, readings}
 use Rattle.dictionary.specs.Dictionary.{unpack, count-of, repeated}
 use Rattle.run_search.specs.Search.{Answer, nothing, with-line}
-use Rattle.run_search.specs.Runs.{Asked, fate-in, values, through, run-at, then, tally, plus, entry-lines, entry-kept, Readable, Within}
+use Rattle.dictionary.specs.Entries.{lines-in, uses}
+use Rattle.run_search.specs.Runs.{Asked, fate-in, values, through, run-at, then, tally, plus, Readable, Within}
 use Rattle.run_search.specs.declared.rows.Tally.{Tally}
 use Rattle.run_search.proofs.RunLaws.{through-append, through-run, plus-then, plus-nothing, unpack-entry, run-at-within, values-length}
 
@@ -54,7 +55,7 @@ pub going-starts : (ds is : List ℕ) → Readable ds is → Going ds is 0 0 0
 going-starts ds is r = record { few-entries = omega arith; few-imprints = omega arith; readable = r; lines-left = zero-add (length (unpack ds is)) }
 
 -- the lines of an entry are as many as its count
-lines-count : (d : ℕ) (is : List ℕ) → entry-kept d ≤ length is → length (entry-lines d is) ≡ count-of d
+lines-count : (d : ℕ) (is : List ℕ) → uses d ≤ length is → length (lines-in d is) ≡ count-of d
 lines-count d is h = go (repeated d) h
   where
     go : (b : Bool) → cond b 1 (count-of d) ≤ length is → length (cond b (replicate (count-of d) (getD is 0 0)) (take (count-of d) is)) ≡ count-of d
@@ -63,26 +64,20 @@ lines-count d is h = go (repeated d) h
 
 -- a repeat entry and a plain one
 module _ (d : ℕ) where
-  pub kept-repeat : repeated d ≡ true → entry-kept d ≡ 1
-  kept-repeat e = ap (λ (b : Bool). cond b 1 (count-of d)) e
-
-  pub kept-plain : repeated d ≡ false → entry-kept d ≡ count-of d
-  kept-plain e = ap (λ (b : Bool). cond b 1 (count-of d)) e
-
-  pub lines-repeat : (is : List ℕ) → repeated d ≡ true → entry-lines d is ≡ replicate (count-of d) (getD is 0 0)
+  pub lines-repeat : (is : List ℕ) → repeated d ≡ true → lines-in d is ≡ replicate (count-of d) (getD is 0 0)
   lines-repeat is e = ap (λ (b : Bool). cond b (replicate (count-of d) (getD is 0 0)) (take (count-of d) is)) e
 
-  pub lines-plain : (is : List ℕ) → repeated d ≡ false → entry-lines d is ≡ take (count-of d) is
+  pub lines-plain : (is : List ℕ) → repeated d ≡ false → lines-in d is ≡ take (count-of d) is
   lines-plain is e = ap (λ (b : Bool). cond b (replicate (count-of d) (getD is 0 0)) (take (count-of d) is)) e
 
 -- what the next entry is
 pub record Next (ds is : List ℕ) (e i c d : ℕ) : Type 0 where
   pub has-line : 1 ≤ count-of d
-  pub has-imprints : i + entry-kept d ≤ length is
+  pub has-imprints : i + uses d ≤ length is
   pub in-lines : c + count-of d ≤ length (unpack ds is)
-  pub as-many : length (entry-lines d (drop i is)) ≡ count-of d
-  pub apart : unpack (drop e ds) (drop i is) ≡ entry-lines d (drop i is) ++ unpack (drop (e + 1) ds) (drop (i + entry-kept d) is)
-  pub onward : Going ds is (e + 1) (i + entry-kept d) (c + count-of d)
+  pub as-many : length (lines-in d (drop i is)) ≡ count-of d
+  pub apart : unpack (drop e ds) (drop i is) ≡ lines-in d (drop i is) ++ unpack (drop (e + 1) ds) (drop (i + uses d) is)
+  pub onward : Going ds is (e + 1) (i + uses d) (c + count-of d)
 
 pub going-next : (ds is : List ℕ) (e i c : ℕ) → Going ds is e i c → e < length ds → Next ds is e i c (getD ds e 0)
 going-next ds is e i c g h = go (rw cut at (g .readable))
@@ -95,20 +90,20 @@ going-next ds is e i c g h = go (rw cut at (g .readable))
 
     go : Readable (getD ds e 0 ∷ drop (e + 1) ds) (drop i is) → Next ds is e i c (getD ds e 0)
     go r =
-        let m : i + entry-kept (getD ds e 0) ≤ length is = omega (arith, r .1, length-drop i is, g .few-imprints) in
+        let m : i + uses (getD ds e 0) ≤ length is = omega (arith, r .1, length-drop i is, g .few-imprints) in
         let n = lines-count (getD ds e 0) (drop i is) (r .1) in
-        let a : unpack (drop e ds) (drop i is) ≡ entry-lines (getD ds e 0) (drop i is) ++ unpack (drop (e + 1) ds) (drop (i + entry-kept (getD ds e 0)) is) =
+        let a : unpack (drop e ds) (drop i is) ≡ lines-in (getD ds e 0) (drop i is) ++ unpack (drop (e + 1) ds) (drop (i + uses (getD ds e 0)) is) =
         ap (λ (l : List ℕ). unpack l (drop i is)) cut ∙ unpack-entry (getD ds e 0) (drop (e + 1) ds) (drop i is)
-        ∙ ap (λ (l : List ℕ). entry-lines (getD ds e 0) (drop i is) ++ unpack (drop (e + 1) ds) l) (drop-drop (entry-kept (getD ds e 0)) i is) in
-        let l : count-of (getD ds e 0) + length (unpack (drop (e + 1) ds) (drop (i + entry-kept (getD ds e 0)) is)) ≡ length (unpack (drop e ds) (drop i is)) =
-        omega (arith, ap length a, length-append (entry-lines (getD ds e 0) (drop i is)) (unpack (drop (e + 1) ds) (drop (i + entry-kept (getD ds e 0)) is)), n) in
+        ∙ ap (λ (l : List ℕ). lines-in (getD ds e 0) (drop i is) ++ unpack (drop (e + 1) ds) l) (drop-drop (uses (getD ds e 0)) i is) in
+        let l : count-of (getD ds e 0) + length (unpack (drop (e + 1) ds) (drop (i + uses (getD ds e 0)) is)) ≡ length (unpack (drop e ds) (drop i is)) =
+        omega (arith, ap length a, length-append (lines-in (getD ds e 0) (drop i is)) (unpack (drop (e + 1) ds) (drop (i + uses (getD ds e 0)) is)), n) in
         record {
           has-line = r .0;
           has-imprints = m;
           in-lines = omega (arith, l, g .lines-left);
           as-many = n;
           apart = a;
-          onward = record { few-entries = omega arith; few-imprints = m; readable = rw (drop-drop (entry-kept (getD ds e 0)) i is) at (r .2); lines-left = omega (arith, l, g .lines-left) };
+          onward = record { few-entries = omega arith; few-imprints = m; readable = rw (drop-drop (uses (getD ds e 0)) i is) at (r .2); lines-left = omega (arith, l, g .lines-left) };
         }
 
 -- at the last entry nothing is left
@@ -127,12 +122,12 @@ module _ (q : Asked) (col : List ℤ) (ds is : List ℕ) where
   pub counting-starts : Readable ds is → Counting q col ds is 0 0 0 (tally 0 0 0 0)
   counting-starts r = record { going = going-starts ds is r; within = record { few-rows = omega arith; few-skipped = omega arith; few-whole = omega arith; few-compared = omega arith }; in-all = refl }
 
-  pub counting-next : (e i c : ℕ) (t : Tally) → Counting q col ds is e i c t → e < length ds → (t′ : Tally) → t′ ≡ plus t (through readings q col c (entry-lines (getD ds e 0) (drop i is))) → Counting q col ds is (e + 1) (i + entry-kept (getD ds e 0)) (c + count-of (getD ds e 0)) t′
+  pub counting-next : (e i c : ℕ) (t : Tally) → Counting q col ds is e i c t → e < length ds → (t′ : Tally) → t′ ≡ plus t (through readings q col c (lines-in (getD ds e 0) (drop i is))) → Counting q col ds is (e + 1) (i + uses (getD ds e 0)) (c + count-of (getD ds e 0)) t′
   counting-next e i c t g h t′ eq =
       let x = going-next ds is e i c (g .going) h in
       let d = getD ds e 0 in
-      let ws = entry-lines d (drop i is) in
-      let rest = unpack (drop (e + 1) ds) (drop (i + entry-kept d) is) in
+      let ws = lines-in d (drop i is) in
+      let rest = unpack (drop (e + 1) ds) (drop (i + uses d) is) in
       let split : through readings q col c (unpack (drop e ds) (drop i is)) ≡ then (through readings q col c ws) (through readings q col (c + count-of d) rest) =
       ap (through readings q col c) (x .apart) ∙ through-append readings q col ws rest c ∙ ap (λ (n : ℕ). then (through readings q col c ws) (through readings q col (c + n) rest)) (x .as-many) in
       record {

@@ -17,7 +17,8 @@ use Rattle.bins.specs.declared.Fate.{Fate}
 use Rattle.bins.specs.declared.Fate.the-variants.{Skipped, Whole, Compared}
 use Rattle.dictionary.specs.Dictionary.{unpack, count-of}
 use Rattle.run_search.specs.Search.{Answer, scan, nothing}
-use Rattle.run_search.specs.Runs.{Asked, fate-in, values, through, run-of, run-at, then, entry-lines, entry-kept, Readable}
+use Rattle.dictionary.specs.Entries.{lines-in, uses}
+use Rattle.run_search.specs.Runs.{Asked, fate-in, values, through, run-of, run-at, then, Readable}
 use Rattle.run_search.proofs.RunLaws.{through-append}
 use Rattle.run_search.proofs.EntryLaws.{Going, going-starts, going-next, going-ends, Next, lines-turn, lines-end}
 
@@ -111,31 +112,31 @@ module _ (q : Asked) (col : List ℤ) (ds is rows₀ : List ℕ) where
   filling-starts r = record { going = going-starts ds is r; listing = listing-starts rows₀ 0 (through readings q col 0 (unpack ds is) .ids) }
 
   -- the rows of the next entry come first
-  pub filling-apart : (e i c : ℕ) → Going ds is e i c → e < length ds → through readings q col c (unpack (drop e ds) (drop i is)) .ids ≡ through readings q col c (entry-lines (getD ds e 0) (drop i is)) .ids ++ through readings q col (c + count-of (getD ds e 0)) (unpack (drop (e + 1) ds) (drop (i + entry-kept (getD ds e 0)) is)) .ids
+  pub filling-apart : (e i c : ℕ) → Going ds is e i c → e < length ds → through readings q col c (unpack (drop e ds) (drop i is)) .ids ≡ through readings q col c (lines-in (getD ds e 0) (drop i is)) .ids ++ through readings q col (c + count-of (getD ds e 0)) (unpack (drop (e + 1) ds) (drop (i + uses (getD ds e 0)) is)) .ids
   filling-apart e i c g h =
       let x = going-next ds is e i c g h in
       let d = getD ds e 0 in
-      let ws = entry-lines d (drop i is) in
-      let rest = unpack (drop (e + 1) ds) (drop (i + entry-kept d) is) in
+      let ws = lines-in d (drop i is) in
+      let rest = unpack (drop (e + 1) ds) (drop (i + uses d) is) in
       ap (λ (l : List ℕ). through readings q col c l .ids) (x .apart)
       ∙ ap (λ (a : Answer). a .ids) (through-append readings q col ws rest c)
       ∙ ap (λ (n : ℕ). through readings q col c ws .ids ++ through readings q col (c + n) rest .ids) (x .as-many)
 
-  pub filling-next : (e i c : ℕ) (rows : List ℕ) (at : ℕ) → Filling q col ds is rows₀ e i c rows at → e < length ds → (rows′ : List ℕ) → rows′ ≡ sets rows at (through readings q col c (entry-lines (getD ds e 0) (drop i is)) .ids) → (at′ : ℕ) → at′ ≡ at + length (through readings q col c (entry-lines (getD ds e 0) (drop i is)) .ids) → Filling q col ds is rows₀ (e + 1) (i + entry-kept (getD ds e 0)) (c + count-of (getD ds e 0)) rows′ at′
+  pub filling-next : (e i c : ℕ) (rows : List ℕ) (at : ℕ) → Filling q col ds is rows₀ e i c rows at → e < length ds → (rows′ : List ℕ) → rows′ ≡ sets rows at (through readings q col c (lines-in (getD ds e 0) (drop i is)) .ids) → (at′ : ℕ) → at′ ≡ at + length (through readings q col c (lines-in (getD ds e 0) (drop i is)) .ids) → Filling q col ds is rows₀ (e + 1) (i + uses (getD ds e 0)) (c + count-of (getD ds e 0)) rows′ at′
   filling-next e i c rows at f h rows′ p at′ r =
       record {
         going = going-next ds is e i c (f .going) h .onward;
-        listing = listing-next rows₀ 0 (through readings q col 0 (unpack ds is) .ids) rows at (through readings q col c (unpack (drop e ds) (drop i is)) .ids) (f .listing) (through readings q col c (entry-lines (getD ds e 0) (drop i is)) .ids) (through readings q col (c + count-of (getD ds e 0)) (unpack (drop (e + 1) ds) (drop (i + entry-kept (getD ds e 0)) is)) .ids) (filling-apart e i c (f .going) h) rows′ p at′ r;
+        listing = listing-next rows₀ 0 (through readings q col 0 (unpack ds is) .ids) rows at (through readings q col c (unpack (drop e ds) (drop i is)) .ids) (f .listing) (through readings q col c (lines-in (getD ds e 0) (drop i is)) .ids) (through readings q col (c + count-of (getD ds e 0)) (unpack (drop (e + 1) ds) (drop (i + uses (getD ds e 0)) is)) .ids) (filling-apart e i c (f .going) h) rows′ p at′ r;
       }
 
   pub filling-ends : (e i c : ℕ) (rows : List ℕ) (at : ℕ) → Filling q col ds is rows₀ e i c rows at → length ds ≤ e → rows ≡ sets rows₀ 0 (through readings q col 0 (unpack ds is) .ids)
   filling-ends e i c rows at f h = listing-ends rows₀ 0 (through readings q col 0 (unpack ds is) .ids) rows at (through readings q col c (unpack (drop e ds) (drop i is)) .ids) (f .listing) (ap (λ (ws : List ℕ). through readings q col c ws .ids) (going-ends ds is e i h)) .0
 
   -- the room for the next entry's rows
-  pub filling-room : (e i c : ℕ) (rows : List ℕ) (at : ℕ) → Filling q col ds is rows₀ e i c rows at → e < length ds → length (through readings q col 0 (unpack ds is) .ids) ≤ length rows₀ → at + length (through readings q col c (entry-lines (getD ds e 0) (drop i is)) .ids) ≤ length rows
+  pub filling-room : (e i c : ℕ) (rows : List ℕ) (at : ℕ) → Filling q col ds is rows₀ e i c rows at → e < length ds → length (through readings q col 0 (unpack ds is) .ids) ≤ length rows₀ → at + length (through readings q col c (lines-in (getD ds e 0) (drop i is)) .ids) ≤ length rows
   filling-room e i c rows at f h l =
-      let a = through readings q col c (entry-lines (getD ds e 0) (drop i is)) .ids in
-      let b = through readings q col (c + count-of (getD ds e 0)) (unpack (drop (e + 1) ds) (drop (i + entry-kept (getD ds e 0)) is)) .ids in
+      let a = through readings q col c (lines-in (getD ds e 0) (drop i is)) .ids in
+      let b = through readings q col (c + count-of (getD ds e 0)) (unpack (drop (e + 1) ds) (drop (i + uses (getD ds e 0)) is)) .ids in
       omega (arith, listing-room rows₀ 0 (through readings q col 0 (unpack ds is) .ids) rows at (through readings q col c (unpack (drop e ds) (drop i is)) .ids) (f .listing) (omega arith), ap length (filling-apart e i c (f .going) h), length-append a b)
 
 -- at the start of a loop, where nothing is behind

@@ -19,7 +19,8 @@ use Rattle.bins.specs.declared.Fate.{Fate}
 use Rattle.bins.specs.declared.Fate.the-variants.{Skipped, Whole, Compared}
 use Rattle.dictionary.specs.Dictionary.{unpack, count-of, repeated}
 use Rattle.run_search.specs.Search.{scan, Answer, nothing, with-line, over, fates, search}
-use Rattle.run_search.specs.Runs.{Asked, asking, fate-in, values, through, run-of, run-at, then, tally, plus, entry-lines, entry-kept, Within, row-at}
+use Rattle.dictionary.specs.Entries.{lines-in, uses}
+use Rattle.run_search.specs.Runs.{Asked, asking, fate-in, values, through, run-of, run-at, then, tally, plus, Within, row-at}
 use Rattle.run_search.specs.declared.rows.Tally.{Tally}
 use Rattle.run_search.proofs.SearchLaws.{scan-append}
 
@@ -133,7 +134,7 @@ module _ (k : Kind) (p : 0 < k .per) (bs : List ℤ) (low high : ℤ) (col : Lis
 
 -- ---- entries
 
-pub unpack-entry : (d : ℕ) (ds is : List ℕ) → unpack (d ∷ ds) is ≡ entry-lines d is ++ unpack ds (drop (entry-kept d) is)
+pub unpack-entry : (d : ℕ) (ds is : List ℕ) → unpack (d ∷ ds) is ≡ lines-in d is ++ unpack ds (drop (uses d) is)
 unpack-entry d ds is = go (repeated d)
   where
     go : (b : Bool) → cond b (replicate (count-of d) (getD is 0 0) ++ unpack ds (drop 1 is)) (take (count-of d) is ++ unpack ds (drop (count-of d) is)) ≡ cond b (replicate (count-of d) (getD is 0 0)) (take (count-of d) is) ++ unpack ds (drop (cond b 1 (count-of d)) is)

@@ -1,16 +1,15 @@
 -- The range search as the program goes, entry by entry: the laws show that it is the search of document 01. Assumes nothing.
 use Prim.Native.Nat.{ℕ, zero, suc, _+_, _*_, _≤_, min}
-use mathlib.Core.Path.{_≡_}
 use mathlib.Core.List.{List, [], _∷_, _++_}
-use mathlib.Core.Bool.{Bool, true, false, cond}
 use lib.IntN.{ℤ}
-use lib.ListN.{length, take, drop, getD, replicate}
+use lib.ListN.{length, take, drop}
 use Rattle.words.specs.Lists.{from}
 use Rattle.bins.specs.Bins.{Kind, bins}
 use Rattle.bins.specs.Masks.{mask, inner, fate}
 use Rattle.bins.specs.declared.Fate.{Fate}
 use Rattle.bins.specs.declared.Fate.the-variants.{Skipped, Whole, Compared}
-use Rattle.dictionary.specs.Dictionary.{count-of, repeated}
+use Rattle.dictionary.specs.Dictionary.{count-of}
+use Rattle.dictionary.specs.Entries.{uses}
 use Rattle.run_search.specs.Search.{scan, Answer, nothing, with-line}
 use Rattle.run_search.specs.declared.rows.Ask.{Ask}
 use Rattle.run_search.specs.declared.rows.Tally.{Tally}
@@ -64,18 +63,10 @@ tally n s w c = record { rows = n; skipped = s; whole = w; compared = c }
 abbrev pub plus : Tally → Answer → Tally
 plus t a = tally (t .rows + length (a .ids)) (t .skipped + a .skips) (t .whole + a .wholes) (t .compared + a .compares)
 
--- the lines of an entry: its dictionary word d, and the imprints from its own on
-abbrev pub entry-lines : ℕ → List ℕ → List ℕ
-entry-lines d is = cond (repeated d) (replicate (count-of d) (getD is 0 0)) (take (count-of d) is)
-
--- how many imprints are kept for an entry
-abbrev pub entry-kept : ℕ → ℕ
-entry-kept d = cond (repeated d) 1 (count-of d)
-
 -- each entry has its imprints, and a line
 abbrev pub Readable : List ℕ → List ℕ → Type 0
 Readable [] is = Unit {0}
-Readable (d ∷ ds) is = (1 ≤ count-of d) × (entry-kept d ≤ length is) × Readable ds (drop (entry-kept d) is)
+Readable (d ∷ ds) is = (1 ≤ count-of d) × (uses d ≤ length is) × Readable ds (drop (uses d) is)
 
 -- the tally of at most c lines of 16 rows
 pub record Within (t : Tally) (c : ℕ) : Type 0 where

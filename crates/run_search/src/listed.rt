@@ -1,6 +1,5 @@
 // The rows of a range, listed entry by entry into a space that is long enough. No word past the answer is written.
 use crate::rows::Ask;
-use crate::rows::kept_by;
 use crate::rows::lines_of;
 use bins::Fate;
 use bins::Line;
@@ -16,7 +15,8 @@ ghost use Rattle.bins.specs.Bins.{readings};
 ghost use Rattle.bins.specs.Masks.{matches};
 ghost use Rattle.dictionary.specs.Dictionary.{count-of, unpack};
 ghost use Rattle.run_search.specs.Search.{scan};
-ghost use Rattle.run_search.specs.Runs.{asked-of, through, run-at, entry-lines, entry-kept, Readable};
+ghost use Rattle.dictionary.specs.Entries.{lines-in, uses};
+ghost use Rattle.run_search.specs.Runs.{asked-of, through, run-at, Readable};
 
 // n rows from `first` on, written from place `at` on.
 fn fill_whole(rows: &mut [u32], at: usize, first: Row, n: usize)
@@ -122,8 +122,8 @@ fn fill_entry(
     imprints: &[u64],
     ask: Ask,
 ) -> usize
-    requires { ⌜ (at + length (through readings (asked-of ask) (now column) (line .0) (entry-lines d (now imprints)) .ids) ≤ length (now rows)) × (line .0 + count-of d ≤ 1048576) × (length (now column) ≤ 16777216) × (entry-kept d ≤ length (now imprints)) ⌝ }
-    ensures { λ r. ⌜ (now (rows .exit) ≡ sets (now (rows .entry)) at (through readings (asked-of ask) (now (column .entry)) (line .0) (entry-lines d (now (imprints .entry))) .ids)) × (r ≡ at + length (through readings (asked-of ask) (now (column .entry)) (line .0) (entry-lines d (now (imprints .entry))) .ids)) ⌝ }
+    requires { ⌜ (at + length (through readings (asked-of ask) (now column) (line .0) (lines-in d (now imprints)) .ids) ≤ length (now rows)) × (line .0 + count-of d ≤ 1048576) × (length (now column) ≤ 16777216) × (uses d ≤ length (now imprints)) ⌝ }
+    ensures { λ r. ⌜ (now (rows .exit) ≡ sets (now (rows .entry)) at (through readings (asked-of ask) (now (column .entry)) (line .0) (lines-in d (now (imprints .entry))) .ids)) × (r ≡ at + length (through readings (asked-of ask) (now (column .entry)) (line .0) (lines-in d (now (imprints .entry))) .ids)) ⌝ }
 {
     let n = dictionary::count_of(d) as usize;
     if dictionary::is_repeat(d) {
@@ -144,7 +144,7 @@ pub fn fill_all(rows: &mut [u32], column: &[i32], imprints: &[u64], dictionary: 
     while e < dictionary.len() {
         let d = dictionary[e];
         at = fill_entry(rows, at, column, Line(c), d, &imprints[i..], ask);
-        i += kept_by(d);
+        i += dictionary::unpacking::used(d);
         c += dictionary::count_of(d) as usize;
         e += 1;
     }

@@ -12,7 +12,8 @@ ghost use Rattle.bins.specs.Bins.{readings};
 ghost use Rattle.bins.specs.Masks.{matches, fate};
 ghost use Rattle.dictionary.specs.Dictionary.{count-of, unpack};
 ghost use Rattle.run_search.specs.Search.{scan};
-ghost use Rattle.run_search.specs.Runs.{asked-of, values, through, run-at, tally, plus, entry-lines, entry-kept, Readable, Within, row-at};
+ghost use Rattle.dictionary.specs.Entries.{lines-in, uses};
+ghost use Rattle.run_search.specs.Runs.{asked-of, values, through, run-at, tally, plus, Readable, Within, row-at};
 
 // What a search has counted so far: rows listed, lines skipped, lines whole, values compared.
 pub struct Tally {
@@ -123,24 +124,14 @@ fn count_plain(t: Tally, column: &[i32], line: Line, imprints: &[u64], ask: Ask)
 
 // The lines of an entry, from `line` on, counted. The imprints begin with the entry's own.
 fn count_entry(t: Tally, column: &[i32], line: Line, d: u32, imprints: &[u64], ask: Ask) -> Tally
-    requires { ⌜ (Within t (line .0)) × (line .0 + count-of d ≤ 1048576) × (length (now column) ≤ 16777216) × (entry-kept d ≤ length (now imprints)) ⌝ }
-    ensures { λ r. ⌜ r ≡ plus t (through readings (asked-of ask) (now (column .entry)) (line .0) (entry-lines d (now (imprints .entry)))) ⌝ }
+    requires { ⌜ (Within t (line .0)) × (line .0 + count-of d ≤ 1048576) × (length (now column) ≤ 16777216) × (uses d ≤ length (now imprints)) ⌝ }
+    ensures { λ r. ⌜ r ≡ plus t (through readings (asked-of ask) (now (column .entry)) (line .0) (lines-in d (now (imprints .entry)))) ⌝ }
 {
     let n = dictionary::count_of(d) as usize;
     if dictionary::is_repeat(d) {
         return count_run(t, column, line, n, imprints[0], ask);
     }
     count_plain(t, column, line, &imprints[..n], ask)
-}
-
-// How many imprints are kept for an entry.
-pub fn kept_by(d: u32) -> usize
-    ensures { λ r. ⌜ r ≡ entry-kept d ⌝ }
-{
-    if dictionary::is_repeat(d) {
-        return 1;
-    }
-    dictionary::count_of(d) as usize
 }
 
 // All the lines of an index, counted.
@@ -160,7 +151,7 @@ pub fn count_all(column: &[i32], imprints: &[u64], dictionary: &[u32], ask: Ask)
     while e < dictionary.len() {
         let d = dictionary[e];
         so_far = count_entry(so_far, column, Line(c), d, &imprints[i..], ask);
-        i += kept_by(d);
+        i += dictionary::unpacking::used(d);
         c += dictionary::count_of(d) as usize;
         e += 1;
     }

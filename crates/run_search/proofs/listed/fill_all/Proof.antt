@@ -9,7 +9,8 @@ use borrow.Author.Needs.{needs}
 use Rattle.words.proofs.ListLaws.{part-from}
 use Rattle.bins.specs.Bins.{readings}
 use Rattle.dictionary.specs.Dictionary.{count-of, unpack}
-use Rattle.run_search.specs.Runs.{asked-of, through, entry-lines, entry-kept}
+use Rattle.dictionary.specs.Entries.{lines-in, uses}
+use Rattle.run_search.specs.Runs.{asked-of, through}
 use Rattle.run_search.proofs.EntryLaws.{going-next}
 use Rattle.run_search.proofs.FillLaws.{Filling, filling-starts, filling-next, filling-ends, filling-room}
 use Rattle.run_search.proofs.listed.fill_all.Statement.{statement}
@@ -17,7 +18,7 @@ use Rattle.run_search.proofs.listed.fill_all.Tie as tie
 use Rattle.run_search.proofs.listed.fill_all.Reads as reads
 use Rattle.run_search.proofs.listed.fill_all.Lts as lts
 use Rattle.run_search.proofs.listed.fill_entry.Reads as fill-entry-reads
-use Rattle.run_search.proofs.rows.kept_by.Reads as kept-by-reads
+use Rattle.dictionary.proofs.unpacking.used.Reads as used-reads
 use Rattle.dictionary.proofs.count_of.Reads as count-of-reads
 
 abbrev Inv-loop : tie.InvT-loop
@@ -58,17 +59,17 @@ fill-entry-requires c κs =
     let p = part-from (a .imprints .now) (l .i) in
     let d = getD (a .dictionary .now) (l .e) 0 in
     let r = filling-room q (a .column .now) (a .dictionary .now) (a .imprints .now) (a .rows .now) (l .e) (l .i) (l .c) (l .rows) (l .at) (l .inv) t (s .pre .3) in
-    (omega (arith, r, ap (λ (m : List ℕ). length (through readings q (a .column .now) (l .c) (entry-lines d m) .ids)) p), omega (arith, x .in-lines, s .pre .1), s .pre .2, omega (arith, x .has-imprints, ap length p, length-drop (l .i) (a .imprints .now)))
+    (omega (arith, r, ap (λ (m : List ℕ). length (through readings q (a .column .now) (l .c) (lines-in d m) .ids)) p), omega (arith, x .in-lines, s .pre .1), s .pre .2, omega (arith, x .has-imprints, ap length p, length-drop (l .i) (a .imprints .now)))
 
-kept-by-requires : tie.Need-kept-by-requires Inv-loop μ-loop
-kept-by-requires c κs = search needs
+used-requires : tie.Need-used-requires Inv-loop μ-loop
+used-requires c κs = search needs
 
 add-i : tie.Need-add-i Inv-loop μ-loop
 add-i c =
     let s = c .before .before .before .before .before .before .before .before .before .before .before .before in
     let l = c .before .before .before .before .before .before .before .before .loop in
     let x = going-next (s .args .dictionary .now) (s .args .imprints .now) (l .e) (l .i) (l .c) (l .inv .going) (c .before .before .before .before .before .before .before .loop-test .taken) in
-    omega (arith, x .has-imprints, c .kept-by .ensures, s .good)
+    omega (arith, x .has-imprints, c .used .ensures, s .good)
 
 count-of-requires : tie.Need-count-of-requires Inv-loop μ-loop
 count-of-requires c κs = search needs
@@ -95,9 +96,9 @@ loop-again c =
     let l = c .before .before .before .before .before .before .before .before .before .loop in
     let q = asked-of (a .ask) in
     let d = getD (a .dictionary .now) (l .e) 0 in
-    let p = ap (λ (m : List ℕ). through readings q (a .column .now) (l .c) (entry-lines d m) .ids) (part-from (a .imprints .now) (l .i)) in
+    let p = ap (λ (m : List ℕ). through readings q (a .column .now) (l .c) (lines-in d m) .ids) (part-from (a .imprints .now) (l .i)) in
     let f = c .before .before .before .before .fill-entry in
-    rw (c .before .kept-by .ensures, c .count-of .ensures) (filling-next q (a .column .now) (a .dictionary .now) (a .imprints .now) (a .rows .now) (l .e) (l .i) (l .c) (l .rows) (l .at) (l .inv) (c .before .before .before .before .before .before .before .before .loop-test .taken) (f .last .0) (f .ensures .0 ∙ ap (sets (l .rows) (l .at)) p) (f .result) (f .ensures .1 ∙ ap (λ (m : List ℕ). l .at + length m) p))
+    rw (c .before .used .ensures, c .count-of .ensures) (filling-next q (a .column .now) (a .dictionary .now) (a .imprints .now) (a .rows .now) (l .e) (l .i) (l .c) (l .rows) (l .at) (l .inv) (c .before .before .before .before .before .before .before .before .loop-test .taken) (f .last .0) (f .ensures .0 ∙ ap (sets (l .rows) (l .at)) p) (f .result) (f .ensures .1 ∙ ap (λ (m : List ℕ). l .at + length m) p))
 
 same-length : tie.Need-same-length Inv-loop μ-loop
 same-length c = c .before .loop .inv .listing .long
@@ -122,7 +123,7 @@ fill-all-spec =
     part-fill-entry-start
     part-fill-entry-end
     fill-entry-requires
-    kept-by-requires
+    used-requires
     add-i
     count-of-requires
     cast-c

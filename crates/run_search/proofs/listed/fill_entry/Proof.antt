@@ -9,9 +9,11 @@ use lib.Seq.{length-take-le, sets}
 use Rattle.bins.specs.Bins.{readings}
 use Rattle.dictionary.specs.Dictionary.{count-of, repeated}
 use Rattle.run_search.specs.Search.{Answer}
-use Rattle.run_search.specs.Runs.{asked-of, through, run-at, entry-lines, entry-kept}
+use Rattle.dictionary.specs.Entries.{lines-in, uses}
+use Rattle.run_search.specs.Runs.{asked-of, through, run-at}
 use Rattle.run_search.proofs.RunLaws.{through-run}
-use Rattle.run_search.proofs.EntryLaws.{kept-repeat, kept-plain, lines-repeat, lines-plain}
+use Rattle.run_search.proofs.EntryLaws.{lines-repeat, lines-plain}
+use Rattle.dictionary.proofs.GoodLaws.{uses-one, uses-all}
 use borrow.Author.Needs.{needs}
 use Rattle.run_search.proofs.listed.fill_entry.Statement.{statement}
 use Rattle.run_search.proofs.listed.fill_entry.Tie as tie
@@ -36,7 +38,7 @@ unmarked : (c : tie.Else1) → repeated (c .before .before .before .before .befo
 unmarked c = sym (c .before .is-repeat .ensures) ∙ c .if1 .left
 
 -- the lines of a repeat entry are one run, those of a plain one its imprints
-as-run : (c : tie.Then1) → run-at readings (asked-of (c .before .before .before .before .before .args .ask)) (c .before .before .before .before .before .args .column .now) (getD (c .before .before .before .before .before .args .imprints .now) 0 0) (c .before .before .before .before .before .args .line .0) (c .before .before .count-of .result) ≡ through readings (asked-of (c .before .before .before .before .before .args .ask)) (c .before .before .before .before .before .args .column .now) (c .before .before .before .before .before .args .line .0) (entry-lines (c .before .before .before .before .before .args .d) (c .before .before .before .before .before .args .imprints .now))
+as-run : (c : tie.Then1) → run-at readings (asked-of (c .before .before .before .before .before .args .ask)) (c .before .before .before .before .before .args .column .now) (getD (c .before .before .before .before .before .args .imprints .now) 0 0) (c .before .before .before .before .before .args .line .0) (c .before .before .count-of .result) ≡ through readings (asked-of (c .before .before .before .before .before .args .ask)) (c .before .before .before .before .before .args .column .now) (c .before .before .before .before .before .args .line .0) (lines-in (c .before .before .before .before .before .args .d) (c .before .before .before .before .before .args .imprints .now))
 as-run c =
     let a = c .before .before .before .before .before .args in
     let q = asked-of (a .ask) in
@@ -45,19 +47,19 @@ as-run c =
     ∙ sym (through-run readings (a .column .now) q w (count-of (a .d)) (a .line .0))
     ∙ ap (through readings q (a .column .now) (a .line .0)) (sym (lines-repeat (a .d) (a .imprints .now) (marked c)))
 
-as-plain : (c : tie.Else1) → take (c .before .before .count-of .result) (c .before .before .before .before .before .args .imprints .now) ≡ entry-lines (c .before .before .before .before .before .args .d) (c .before .before .before .before .before .args .imprints .now)
+as-plain : (c : tie.Else1) → take (c .before .before .count-of .result) (c .before .before .before .before .before .args .imprints .now) ≡ lines-in (c .before .before .before .before .before .args .d) (c .before .before .before .before .before .args .imprints .now)
 as-plain c =
     let a = c .before .before .before .before .before .args in
     ap (λ (n : ℕ). take n (a .imprints .now)) (c .before .before .count-of .ensures) ∙ sym (lines-plain (a .d) (a .imprints .now) (unmarked c))
 
 few : (c : tie.Else1) → c .before .before .count-of .result ≤ length (c .before .before .before .before .before .args .imprints .now)
-few c = omega (arith, c .before .before .before .before .before .pre .3, kept-plain (c .before .before .before .before .before .args .d) (unmarked c), c .before .before .count-of .ensures)
+few c = omega (arith, c .before .before .before .before .before .pre .3, uses-all (c .before .before .before .before .before .args .d) (unmarked c), c .before .before .count-of .ensures)
 
 is-repeat-requires : tie.Need-is-repeat-requires
 is-repeat-requires c κs = search needs
 
 shared-slice-read-fill-run : tie.Need-shared-slice-read-fill-run
-shared-slice-read-fill-run c = omega (arith, c .before .before .before .before .before .before .before .pre .3, kept-repeat (c .before .before .before .before .before .before .before .args .d) (marked (c .before .before)))
+shared-slice-read-fill-run c = omega (arith, c .before .before .before .before .before .before .before .pre .3, uses-one (c .before .before .before .before .before .before .before .args .d) (marked (c .before .before)))
 
 fill-run-requires : tie.Need-fill-run-requires
 fill-run-requires c κs =

@@ -8,7 +8,8 @@ use borrow.Author.Needs.{needs}
 use Rattle.words.proofs.ListLaws.{part-from}
 use Rattle.bins.specs.Bins.{readings}
 use Rattle.dictionary.specs.Dictionary.{count-of, unpack}
-use Rattle.run_search.specs.Runs.{asked-of, through, plus, tally, entry-lines, entry-kept}
+use Rattle.dictionary.specs.Entries.{lines-in, uses}
+use Rattle.run_search.specs.Runs.{asked-of, through, plus, tally}
 use Rattle.run_search.specs.declared.rows.Tally.{Tally}
 use Rattle.run_search.proofs.EntryLaws.{Counting, counting-starts, counting-next, counting-ends, Going, Next, going-next}
 use Rattle.run_search.proofs.rows.count_all.Statement.{statement}
@@ -16,7 +17,7 @@ use Rattle.run_search.proofs.rows.count_all.Tie as tie
 use Rattle.run_search.proofs.rows.count_all.Reads as reads
 use Rattle.run_search.proofs.rows.count_all.Lts as lts
 use Rattle.run_search.proofs.rows.count_entry.Reads as count-entry-reads
-use Rattle.run_search.proofs.rows.kept_by.Reads as kept-by-reads
+use Rattle.dictionary.proofs.unpacking.used.Reads as used-reads
 use Rattle.dictionary.proofs.count_of.Reads as count-of-reads
 
 abbrev Inv-loop : tie.InvT-loop
@@ -53,15 +54,15 @@ count-entry-requires c κs =
     let x = going-next (s .args .dictionary .now) (s .args .imprints .now) (l .e) (l .i) (l .c) (l .inv .going) (c .before .before .loop-test .taken) in
     (l .inv .within, omega (arith, x .in-lines, s .pre .1), s .pre .2, omega (arith, x .has-imprints, ap length (part-from (s .args .imprints .now) (l .i)), length-drop (l .i) (s .args .imprints .now)))
 
-kept-by-requires : tie.Need-kept-by-requires Inv-loop μ-loop
-kept-by-requires c κs = search needs
+used-requires : tie.Need-used-requires Inv-loop μ-loop
+used-requires c κs = search needs
 
 add-i : tie.Need-add-i Inv-loop μ-loop
 add-i c =
     let s = c .before .before .before .before .before .before .before .before in
     let l = c .before .before .before .before .before .loop in
     let x = going-next (s .args .dictionary .now) (s .args .imprints .now) (l .e) (l .i) (l .c) (l .inv .going) (c .before .before .before .before .loop-test .taken) in
-    omega (arith, x .has-imprints, c .kept-by .ensures, s .good)
+    omega (arith, x .has-imprints, c .used .ensures, s .good)
 
 count-of-requires : tie.Need-count-of-requires Inv-loop μ-loop
 count-of-requires c κs = search needs
@@ -89,7 +90,7 @@ loop-again c =
     let q = asked-of (a .ask) in
     let is = a .imprints .now in
     let d = getD (a .dictionary .now) (l .e) 0 in
-    rw (c .before .kept-by .ensures, c .count-of .ensures) (counting-next q (a .column .now) (a .dictionary .now) is (l .e) (l .i) (l .c) (l .so-far) (l .inv) (c .before .before .before .before .before .loop-test .taken) (c .before .before .count-entry .result) (c .before .before .count-entry .ensures ∙ ap (λ (m : List ℕ). plus (l .so-far) (through readings q (a .column .now) (l .c) (entry-lines d m))) (part-from is (l .i))))
+    rw (c .before .used .ensures, c .count-of .ensures) (counting-next q (a .column .now) (a .dictionary .now) is (l .e) (l .i) (l .c) (l .so-far) (l .inv) (c .before .before .before .before .before .loop-test .taken) (c .before .before .count-entry .result) (c .before .before .count-entry .ensures ∙ ap (λ (m : List ℕ). plus (l .so-far) (through readings q (a .column .now) (l .c) (lines-in d m))) (part-from is (l .i))))
 
 returns : tie.Need-returns Inv-loop μ-loop
 returns c =
@@ -111,7 +112,7 @@ count-all-spec =
     part-count-entry-start
     part-count-entry-end
     count-entry-requires
-    kept-by-requires
+    used-requires
     add-i
     count-of-requires
     cast-c

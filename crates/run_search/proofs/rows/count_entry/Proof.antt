@@ -8,9 +8,11 @@ use lib.ListN.{length, take, getD}
 use lib.Seq.{length-take-le}
 use Rattle.bins.specs.Bins.{readings}
 use Rattle.dictionary.specs.Dictionary.{count-of, repeated}
-use Rattle.run_search.specs.Runs.{asked-of, through, run-at, plus, entry-kept}
+use Rattle.dictionary.specs.Entries.{uses}
+use Rattle.run_search.specs.Runs.{asked-of, through, run-at, plus}
 use Rattle.run_search.proofs.RunLaws.{through-run}
-use Rattle.run_search.proofs.EntryLaws.{kept-repeat, kept-plain, lines-repeat, lines-plain}
+use Rattle.run_search.proofs.EntryLaws.{lines-repeat, lines-plain}
+use Rattle.dictionary.proofs.GoodLaws.{uses-one, uses-all}
 use borrow.Author.Needs.{needs}
 use Rattle.run_search.proofs.rows.count_entry.Statement.{statement}
 use Rattle.run_search.proofs.rows.count_entry.Tie as tie
@@ -38,7 +40,7 @@ is-repeat-requires : tie.Need-is-repeat-requires
 is-repeat-requires c κs = search needs
 
 shared-slice-read-count-run : tie.Need-shared-slice-read-count-run
-shared-slice-read-count-run c = omega (arith, c .before .before .before .before .before .pre .3, kept-repeat (c .before .before .before .before .before .args .d) (marked (c .before)))
+shared-slice-read-count-run c = omega (arith, c .before .before .before .before .before .pre .3, uses-one (c .before .before .before .before .before .args .d) (marked (c .before)))
 
 count-run-requires : tie.Need-count-run-requires
 count-run-requires c κs = search needs
@@ -56,13 +58,13 @@ slice-aggregate-count-plain : tie.Need-slice-aggregate-count-plain
 slice-aggregate-count-plain c =
     let s = c .before .before .before .before .before in
     let n = c .before .before .before .count-of .result in
-    sym (length-take-le n (s .args .imprints .now) (omega (arith, s .pre .3, kept-plain (s .args .d) (unmarked (c .before)), c .before .before .before .count-of .ensures)))
+    sym (length-take-le n (s .args .imprints .now) (omega (arith, s .pre .3, uses-all (s .args .d) (unmarked (c .before)), c .before .before .before .count-of .ensures)))
 
 count-plain-requires : tie.Need-count-plain-requires
 count-plain-requires c κs =
     let s = c .before .before .before .before .before in
     let n = c .before .before .before .count-of .result in
-    let h : n ≤ length (s .args .imprints .now) = omega (arith, s .pre .3, kept-plain (s .args .d) (unmarked (c .before)), c .before .before .before .count-of .ensures) in
+    let h : n ≤ length (s .args .imprints .now) = omega (arith, s .pre .3, uses-all (s .args .d) (unmarked (c .before)), c .before .before .before .count-of .ensures) in
     (s .pre .0, omega (arith, s .pre .1, length-take-le n (s .args .imprints .now) h, c .before .before .before .count-of .ensures), s .pre .2)
 
 returns-2 : tie.Need-returns-2
