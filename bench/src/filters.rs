@@ -38,7 +38,7 @@ pub fn measure(reps: usize, calls: usize) {
         let strange: Vec<u32> = (0..4096).map(|_| dice.below(keys) as u32).collect();
         let name = format!("{levels} levels, room {room}, {splits} splits");
         let show = |call: &str, ns: f64| println!("| {name} | {call} | {ns:.0} |");
-        eprintln!("filter of {levels} levels and room {room}: asking, learning, arrivals");
+        eprintln!("filter of {levels} levels and room {room}: asking, learning, arrivals, forgetting");
         show("ask, any key", best(reps, calls, |i| _ = filter.denies(strange[i % 4096]..=strange[i % 4096])));
         show(
             "ask, a key it denies",
@@ -56,6 +56,8 @@ pub fn measure(reps: usize, calls: usize) {
         });
         show("arrival of a remembered key, then learning it again", pair);
         show("learn, refused for room or not", best(reps, calls, |i| _ = filter.learn(strange[i % 4096]..=strange[i % 4096])));
+        show("forget, on a copy made for it", best(reps, calls, |_| filter.clone().forget().unwrap()));
+        show("departure", best(reps, calls, |i| filter.depart(strange[i % 4096]).unwrap()));
         show("read", best(reps, calls, |_| _ = filter.state()));
     }
 }
