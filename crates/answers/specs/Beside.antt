@@ -2,7 +2,6 @@
 use mathlib.Core.List.{List, [], _∷_}
 use Prim.Native.Nat.{ℕ}
 use Rattle.words.specs.Numbers.{numbered, done, no-index}
-use Rattle.dictionary.specs.declared.Position.{Position}
 use Rattle.dictionary.specs.declared.Step.{Step}
 use Rattle.dictionary.specs.declared.Step.the-variants.{Line, Ended, Wrong}
 use Rattle.column_index.specs.declared.UnpackAnswer.{UnpackAnswer}

@@ -1,8 +1,8 @@
 -- Laws of bins and imprints. Assumes nothing.
-use Prim.Native.Nat.{ℕ, zero, suc, _+_, _^_, _/_, _%_, _<_, _≤_}
+use Prim.Native.Nat.{ℕ, zero, suc, _+_, _^_, _%_, _<_, _≤_}
 use mathlib.Core.Path.{_≡_, refl, sym, _∙_, ap}
 use mathlib.Core.List.{List, [], _∷_, _++_, map, List·Memᴰ, List·Memᴰ·head, List·Memᴰ·tail}
-use mathlib.Core.Bool.{Bool, true, false, cond, _&&_, _||_, and-eq-true-iff, false≢true}
+use mathlib.Core.Bool.{Bool, true, false, cond, _||_, and-eq-true-iff, false≢true}
 use native.Mathlib.Omega.{arith}
 use native.Mathlib.Nat.{zero-div}
 use native.Mathlib.Numerals.{add-one}
@@ -17,7 +17,7 @@ use Rattle.words.specs.Bits.{bit}
 use Rattle.words.proofs.Order.{leZ-trans, leZ-no, ltZ-trans, ltZ-nle, ltZ-pred}
 use Rattle.words.proofs.ListLaws.{pieces-count}
 use Rattle.words.proofs.BitLaws.{bit-word, word-lt}
-use Rattle.bins.specs.Bins.{Kind, bin, bins, imprint, imprints, lines, rising, rising-from}
+use Rattle.bins.specs.Bins.{Kind, bin, bins, imprint, imprints, rising, rising-from}
 
 module _ (k : Kind) where
   pub bin-mono : (bs : List ℤ) (u v : ℤ) → leZ u v ≡ true → bin k bs u ≤ bin k bs v

@@ -1,6 +1,6 @@
 -- The calls for C and Rust: the number, every word beside it and every lent word, each by the promise of the call under it. Assumes nothing.
 use mathlib.Core.Path.{_≡_}
-use mathlib.Core.List.{List, [], _∷_}
+use mathlib.Core.List.{List, []}
 use Prim.Native.Nat.{ℕ}
 use lib.IntN.{ℤ}
 use Rattle.words.specs.Numbers.{numbered}

@@ -1,7 +1,7 @@
 -- What is built is accepted, and with it the search lists what a plain scan lists. Assumes nothing.
-use Prim.Native.Nat.{ℕ, zero, suc, _+_, _-_, _^_, _<_, _≤_}
+use Prim.Native.Nat.{ℕ, zero, suc, _^_, _<_, _≤_}
 use mathlib.Core.Path.{_≡_, refl, sym, _∙_, ap}
-use mathlib.Core.List.{List, [], _∷_, _++_, map}
+use mathlib.Core.List.{List, [], _∷_, map}
 use mathlib.Core.Bool.{Bool, true, false, _&&_, and-eq-true-iff}
 use native.Mathlib.Omega.{arith}
 use lib.Dec.{leb, ltb, lit<, lit≤}
@@ -9,14 +9,14 @@ use lib.ListN.{length, take, drop, take-append-drop, length-drop}
 use lib.Seq.{length-take-le}
 use lib.IntN.{ℤ}
 use borrow.Author.Tests.{leb-true, le-leb, leb-false, lt-ltb}
-use Rattle.words.specs.Lists.{pieces, every, ceil}
+use Rattle.words.specs.Lists.{pieces, every}
 use Rattle.words.proofs.ListLaws.{pieces-nil, pieces-more, pieces-short}
-use Rattle.bins.specs.Bins.{Kind, bins, lines, imprint, imprints, rising, borders}
+use Rattle.bins.specs.Bins.{Kind, bins, imprint, imprints, borders}
 use Rattle.bins.proofs.BinLaws.{imprint-lt, imprint-pos, imprints-length}
 use Rattle.bins.proofs.BorderLaws.{borders-rising}
-use Rattle.dictionary.specs.Dictionary.{fit, largest, pack, unpack, accepted}
+use Rattle.dictionary.specs.Dictionary.{fit, largest, accepted}
 use Rattle.dictionary.proofs.IndexLaws.{pack-accepted, unpack-pack}
-use Rattle.column_index.specs.Index.{line-count, packed-with, built, is-index-for}
+use Rattle.column_index.specs.Index.{packed-with, built, is-index-for}
 use Rattle.run_search.specs.Search.{scan, search-by, search}
 use Rattle.run_search.proofs.SearchLaws.{InKind, search-scan}
 

@@ -1,32 +1,29 @@
 -- What the range search's call stands on: an accepted index can be read, and the program's 64 bits say what the bins say. Assumes nothing.
-use Prim.Native.Nat.{ℕ, zero, suc, _+_, _*_, _/_, _%_, _^_, _<_, _≤_}
+use Prim.Native.Nat.{ℕ, suc, _+_, _*_, _/_, _%_, _^_, _<_, _≤_}
 use mathlib.Core.Path.{_≡_, refl, sym, _∙_, ap, ap₂, subst}
 use mathlib.Core.List.{List, [], _∷_, _++_, map}
-use mathlib.Core.Bool.{Bool, true, false, cond, not, _&&_, and-eq-true-iff, false≢true}
+use mathlib.Core.Bool.{Bool, true, false, cond, not, and-eq-true-iff}
 use native.Mathlib.Omega.{arith}
-use lib.Bits.{bitAnd}
-use lib.Dec.{leb, ltb, eqb, lit<, lit≤}
-use lib.ListN.{length, take, drop, getD, length-append}
+use lib.Dec.{leb, ltb, lit<, lit≤}
+use lib.ListN.{length, drop, length-append}
 use lib.Pow.{pow-mono}
 use lib.Seq.{drop-append-seam}
 use lib.IntN.{ℤ}
 use lib.Signed.{ltZ}
 use borrow.Author.Tests.{leb-true, ltb-true, ltb-false, lt-ltb, le-ltb}
-use Rattle.words.specs.Lists.{joined, every, ceil, after}
+use Rattle.words.specs.Lists.{joined, every, after}
 use Rattle.words.specs.Numbers.{numbered}
-use Rattle.words.specs.Bits.{odd, share, outside}
 use Rattle.words.proofs.BitOps.{share-and, outside-and}
 use Rattle.bins.specs.Bins.{Kind, readings, bins, good-borders, rising}
-use Rattle.bins.specs.Masks.{mask, inner, fate}
+use Rattle.bins.specs.Masks.{fate}
 use Rattle.bins.specs.declared.Fate.{Fate}
 use Rattle.bins.specs.declared.Fate.the-variants.{Skipped, Whole, Compared}
-use Rattle.dictionary.specs.Dictionary.{Entry, plain, repeat, entries, entry-word, kept, pack, packed, unpack, largest, fit, accepted, count-of, repeated}
+use Rattle.dictionary.specs.Dictionary.{Entry, plain, repeat, entries, entry-word, kept, pack, unpack, largest, fit, accepted}
 use Rattle.dictionary.proofs.IndexLaws.{pack-unpack, accepted-lines}
 use Rattle.dictionary.proofs.PositionLaws.{Sized, entries-sized}
 use Rattle.column_index.specs.Index.{line-count, is-index-for}
-use Rattle.run_search.specs.Search.{Answer, nothing, with-line, search, search-by}
-use Rattle.dictionary.specs.Entries.{uses}
-use Rattle.run_search.specs.Runs.{Asked, asking, fate-in, values, through, Readable}
+use Rattle.run_search.specs.Search.{Answer, with-line, search-by}
+use Rattle.run_search.specs.Runs.{Asked, asking, values, through, Readable}
 use Rattle.column_index.specs.Promise.{most-rows, checked-answer, search-answer, search-room, search-number, Searches}
 use Rattle.column_index.specs.declared.IndexCheck.{IndexCheck}
 use Rattle.column_index.specs.declared.IndexCheck.the-variants as checking

@@ -1,5 +1,5 @@
 -- Pack and unpack undo each other, and a search with the index that build answers lists what a plain scan lists: from the calls' own promises. Assumes nothing.
-use Prim.Native.Nat.{ℕ, _<_, _≤_}
+use Prim.Native.Nat.{ℕ, _≤_}
 use mathlib.Core.Path.{_≡_, refl, sym, _∙_, ap, ap₂}
 use mathlib.Core.List.{List}
 use mathlib.Core.Bool.{Bool, true, false, cond, not, and-eq-true-iff}

@@ -1,9 +1,9 @@
 -- Which entries are a packing: one pass, with the state of the packer. Assumes nothing.
-use Prim.Native.Nat.{ℕ, zero, suc, _+_, _<_, _≤_}
-use mathlib.Core.List.{List, [], _∷_, _++_, map}
+use Prim.Native.Nat.{ℕ, suc}
+use mathlib.Core.List.{List, [], _∷_, _++_}
 use mathlib.Core.Bool.{Bool, true, false, cond, not, _&&_, _||_}
-use lib.Dec.{leb, ltb, eqb}
-use lib.ListN.{length, replicate}
+use lib.Dec.{leb, eqb}
+use lib.ListN.{length}
 use Rattle.dictionary.specs.Dictionary.{Entry, plain, repeat}
 use Rattle.dictionary.proofs.Stream.{State, empty, single, many, over}
 

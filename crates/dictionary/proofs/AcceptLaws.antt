@@ -1,17 +1,16 @@
 -- The one-pass test accepts exactly the packings, and packing what was unpacked gives the same entries. Assumes nothing.
-use Prim.Native.Nat.{ℕ, zero, suc, _+_, _-_, _*_, _<_, _≤_}
+use Prim.Native.Nat.{ℕ, zero, suc, _+_, _<_, _≤_}
 use mathlib.Core.Path.{_≡_, refl, sym, _∙_, ap}
-use mathlib.Core.List.{List, [], _∷_, _++_, map, append-nil, append-assoc}
+use mathlib.Core.List.{List, [], _∷_, _++_, append-nil, append-assoc}
 use mathlib.Core.Bool.{Bool, true, false, cond, not, _&&_, _||_, and-eq-true-iff, false≢true}
 use native.Mathlib.Omega.{arith}
-use lib.Dec.{leb, ltb, eqb}
+use lib.Dec.{leb, eqb}
 use lib.Arith.{lt-of-le-ne}
 use lib.ListN.{length, replicate, length-append}
-use borrow.Author.Tests.{eqb-true, eqb-false, ne-eqb, eq-eqb, leb-true, le-leb, not-true}
-use Rattle.words.specs.Lists.{joined}
+use borrow.Author.Tests.{eqb-true, eqb-false, ne-eqb, eq-eqb, leb-true, le-leb}
 use Rattle.dictionary.specs.Dictionary.{Entry, plain, repeat, entries}
-use Rattle.dictionary.proofs.Stream.{lines-of, unpacked, State, empty, single, many, over, Step, to, flush, close, step, stream, step-single, step-many, step-over}
-use Rattle.dictionary.proofs.StreamLaws.{pending, stream-entries, stream-keeps}
+use Rattle.dictionary.proofs.Stream.{unpacked, State, empty, single, many, over, flush, close, step, stream, step-single, step-many, step-over}
+use Rattle.dictionary.proofs.StreamLaws.{pending, stream-entries}
 use Rattle.dictionary.proofs.Accept.{differs, leaves, goes-on, Reading, at, on, bad, read-first, read-word, read, may-repeat, good, state-of, accepts}
 
 clash : {X : Type 0} → _≡_ {A = ℕ} 0 1 → X

@@ -1,17 +1,16 @@
 -- Packing and unpacking undo each other, and the accepted words are exactly the packings of fit imprints, one per line. Assumes nothing.
-use Prim.Native.Nat.{ℕ, zero, suc, _+_, _-_, _*_, _/_, _%_, _^_, _<_, _≤_}
+use Prim.Native.Nat.{ℕ, _+_, _/_, _%_, _^_, _<_, _≤_}
 use mathlib.Core.Path.{_≡_, refl, sym, _∙_, ap, ap₂}
-use mathlib.Core.List.{List, [], _∷_, _++_, map}
-use mathlib.Core.Bool.{Bool, true, false, cond, _&&_, and-eq-true-iff, false≢true}
+use mathlib.Core.List.{List, [], _∷_, map}
+use mathlib.Core.Bool.{Bool, true, false, _&&_, and-eq-true-iff}
 use native.Mathlib.Omega.{arith}
 use lib.Dec.{eqb}
-use lib.ListN.{length, replicate, take, drop, getD}
+use lib.ListN.{length}
 use lib.Seq.{take-append-seam, drop-append-seam}
 use borrow.Author.Tests.{eqb-true, eq-eqb}
 use Rattle.words.specs.Lists.{joined, every, same}
-use Rattle.words.specs.Bits.{odd}
 use Rattle.words.proofs.ListLaws.{same-refl, same-eq}
-use Rattle.dictionary.specs.Dictionary.{Entry, plain, repeat, entries, entry-word, kept, Packed, packed, pack, unpack, count-of, repeated, fit, accepted}
+use Rattle.dictionary.specs.Dictionary.{Entry, plain, repeat, entries, entry-word, kept, pack, unpack, fit, accepted}
 use Rattle.dictionary.proofs.Stream.{unpacked, empty}
 use Rattle.dictionary.proofs.StreamLaws.{unpacked-entries}
 use Rattle.dictionary.proofs.AcceptLaws.{entries-accepted}

@@ -1,13 +1,13 @@
 -- What a loop that packs keeps: for measuring, lengths; for writing, the stores still to come. Assumes nothing.
 use Prim.Native.Nat.{ℕ, zero, suc, _+_, _-_, _<_, _≤_}
 use mathlib.Core.Path.{_≡_, refl, sym, _∙_, ap}
-use mathlib.Core.List.{List, [], _∷_, _++_}
+use mathlib.Core.List.{List, [], _∷_}
 use mathlib.Core.Bool.{Bool, true, false, cond}
 use native.Mathlib.Omega.{arith}
 use native.Mathlib.Numerals.{add-one}
 use lib.Dec.{eqb, lit≤}
 use lib.Arith.{lt-of-le-ne}
-use lib.ListN.{length, getD, drop, set, length-append, drop-of-length-le}
+use lib.ListN.{length, getD, drop, length-append, drop-of-length-le}
 use lib.Seq.{sets, length-sets, drop-cons}
 use borrow.Author.Tests.{eqb-false}
 use Rattle.words.proofs.ListLaws.{sets-append}
@@ -16,7 +16,7 @@ use Rattle.dictionary.specs.declared.packing.Open.{Open}
 use Rattle.dictionary.specs.declared.packing.Open.the-variants.{Nothing, Lone, Run, Spill}
 use Rattle.dictionary.specs.declared.packing.Opened.{Opened}
 use Rattle.dictionary.specs.declared.packing.Packer.{Packer}
-use Rattle.dictionary.specs.Packer.{opened, turn, fresh, Steady, move, move-on, last-of, last-word, settled, added, dict-from, imps-from, packer, after}
+use Rattle.dictionary.specs.Packer.{opened, fresh, Steady, move, move-on, last-of, last-word, settled, added, dict-from, imps-from, packer, after}
 use Rattle.dictionary.proofs.PackerLaws.{dict-is, imps-is}
 
 -- ---- the open entry stays steady

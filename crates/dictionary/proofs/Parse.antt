@@ -1,12 +1,12 @@
 -- The words of an index, parsed entry by entry and tested in one pass. Assumes nothing.
-use Prim.Native.Nat.{ℕ, zero, suc, _+_, _-_, _*_, _/_, _%_, _^_, _<_, _≤_}
-use mathlib.Core.List.{List, [], _∷_, _++_, map}
-use mathlib.Core.Bool.{Bool, true, false, cond, not, _&&_, _||_}
-use lib.Dec.{leb, ltb, eqb}
-use lib.ListN.{length, replicate, take, drop}
+use Prim.Native.Nat.{ℕ, zero, suc, _/_, _%_, _^_}
+use mathlib.Core.List.{List, [], _∷_}
+use mathlib.Core.Bool.{Bool, false, cond, _&&_}
+use lib.Dec.{leb, eqb}
+use lib.ListN.{length, take, drop}
 use Rattle.words.specs.Lists.{every}
-use Rattle.dictionary.specs.Dictionary.{Entry, plain, repeat, fit, largest}
-use Rattle.dictionary.proofs.Stream.{unpacked, State, empty}
+use Rattle.dictionary.specs.Dictionary.{Entry, plain, repeat, fit}
+use Rattle.dictionary.proofs.Stream.{unpacked, empty}
 use Rattle.dictionary.proofs.Accept.{accepts}
 
 pub data Parsed : Type 0 where

@@ -1,23 +1,23 @@
 -- `is-index` says exactly that the words are a packing of fit imprints, one per line. Assumes nothing.
-use Prim.Native.Nat.{ℕ, zero, suc, _+_, _-_, _*_, _/_, _%_, _^_, _<_, _≤_}
+use Prim.Native.Nat.{ℕ, zero, suc, _+_, _*_, _/_, _%_, _^_, _<_, _≤_}
 use mathlib.Core.Path.{_≡_, refl, sym, _∙_, ap, ap₂}
-use mathlib.Core.List.{List, [], _∷_, _++_, map, append-nil, append-assoc}
+use mathlib.Core.List.{List, [], _∷_, _++_, map}
 use mathlib.Core.Bool.{Bool, true, false, cond, not, _&&_, _||_, and-eq-true-iff, false≢true}
 use native.Mathlib.Omega.{arith}
 use native.Mathlib.Nat.{div-add-mod'}
-use lib.Dec.{leb, ltb, eqb}
+use lib.Dec.{leb, eqb}
 use lib.Arith.{lt-of-le-ne}
 use lib.ListN.{length, replicate, take, drop, length-append, take-append-drop}
 use lib.Seq.{length-take-le, take-append-seam, drop-append-seam}
-use borrow.Author.Tests.{eqb-true, eqb-false, ne-eqb, eq-eqb, leb-true, le-leb, not-true}
+use borrow.Author.Tests.{eqb-true, eqb-false, eq-eqb, leb-true, le-leb}
 use Rattle.words.proofs.ListLaws.{every-append}
 use Rattle.words.specs.Lists.{joined, every}
-use Rattle.dictionary.specs.Dictionary.{Entry, plain, repeat, entries, entry-word, kept, Packed, packed, fit}
-use Rattle.dictionary.proofs.Stream.{lines-of, unpacked, State, empty, single, many, over}
+use Rattle.dictionary.specs.Dictionary.{Entry, plain, repeat, entries, entry-word, kept, packed, fit}
+use Rattle.dictionary.proofs.Stream.{unpacked, State, empty, single, many, over}
 use Rattle.dictionary.proofs.StreamLaws.{unpacked-entries}
-use Rattle.dictionary.proofs.Accept.{differs, leaves, goes-on, Reading, at, on, bad, read-first, read-word, read, may-repeat, good, state-of, accepts}
+use Rattle.dictionary.proofs.Accept.{differs, leaves, goes-on, Reading, at, on, bad, read, may-repeat, good, state-of, accepts}
 use Rattle.dictionary.proofs.AcceptLaws.{entries-accepted, entries-unpacked, read-bad}
-use Rattle.dictionary.proofs.Parse.{Parsed, parsed, broken, before, next-repeat, next-entry, parse, sound, is-index}
+use Rattle.dictionary.proofs.Parse.{Parsed, parsed, broken, before, next-entry, parse, sound, is-index}
 
 clash : {X : Type 0} → _≡_ {A = ℕ} 0 1 → X
 clash e = absurd (omega arith)

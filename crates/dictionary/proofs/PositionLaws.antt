@@ -1,23 +1,23 @@
 -- Steps from the first position give the lines of an accepted index, one after the other, and then say "ended" for ever. Assumes nothing.
-use Prim.Native.Nat.{ℕ, zero, suc, _+_, _-_, _*_, _/_, _%_, _^_, _<_, _≤_}
+use Prim.Native.Nat.{ℕ, zero, suc, _+_, _/_, _^_, _<_, _≤_}
 use mathlib.Core.Path.{_≡_, refl, sym, _∙_, ap}
 use mathlib.Core.List.{List, [], _∷_, _++_, map}
 use mathlib.Core.Bool.{Bool, true, false, and-eq-true-iff, false≢true}
 use native.Mathlib.Omega.{arith}
-use lib.Dec.{ltb, eqb}
+use lib.Dec.{eqb}
 use lib.Seq.{drop-drop, drop-append-seam}
 use lib.ListN.{length, getD, drop, replicate, length-append, length-replicate, length-drop}
 use borrow.Author.Tests.{ne-eqb, eq-eqb, lt-ltb}
 use Rattle.words.specs.Bits.{odd}
 use Rattle.words.specs.Lists.{joined}
 use Rattle.dictionary.specs.Dictionary.{Entry, plain, repeat, entries, entry-word, kept, count-of, repeated, pack, unpack, accepted}
-use Rattle.dictionary.specs.Position.{position, onward, in-entry, step}
+use Rattle.dictionary.specs.Position.{position, onward, step}
 use Rattle.dictionary.specs.declared.Position.{Position}
 use Rattle.dictionary.specs.declared.Step.{Step}
 use Rattle.dictionary.specs.declared.Step.the-variants.{Line, Ended, Wrong}
 use Rattle.dictionary.proofs.Stream.{unpacked, State, empty, many}
 use Rattle.dictionary.proofs.StreamLaws.{unpacked-entries}
-use Rattle.dictionary.proofs.Accept.{Reading, at, on, bad, read, good, state-of, accepts, may-repeat}
+use Rattle.dictionary.proofs.Accept.{at, read, good, state-of, accepts, may-repeat}
 use Rattle.dictionary.proofs.AcceptLaws.{entries-accepted}
 use Rattle.dictionary.proofs.ParseLaws.{counted, accepts-counted}
 use Rattle.dictionary.proofs.IndexLaws.{pack-unpack, accepted-lines}

@@ -1,8 +1,8 @@
 -- Packing, one imprint at a time: the state is the entry that is still open. Assumes nothing.
-use Prim.Native.Nat.{ℕ, zero, suc, _+_, _-_, _*_, _/_, _%_, _^_, _<_, _≤_}
+use Prim.Native.Nat.{ℕ, suc}
 use mathlib.Core.List.{List, [], _∷_, _++_, map}
 use mathlib.Core.Bool.{Bool, true, false}
-use lib.Dec.{leb, ltb, eqb}
+use lib.Dec.{eqb}
 use lib.ListN.{length, replicate}
 use Rattle.words.specs.Lists.{joined}
 use Rattle.dictionary.specs.Dictionary.{Entry, plain, repeat}

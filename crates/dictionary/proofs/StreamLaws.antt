@@ -1,18 +1,17 @@
 -- Packing one imprint at a time gives the entries of the runs. Assumes nothing.
-use Prim.Native.Nat.{ℕ, zero, suc, _+_, _-_, _*_, _/_, _%_, _^_, _<_, _≤_}
+use Prim.Native.Nat.{ℕ, zero, suc, _+_, _*_, _<_, _≤_}
 use mathlib.Core.Path.{_≡_, refl, sym, _∙_, ap}
 use mathlib.Core.List.{List, [], _∷_, _++_, map, append-nil, append-assoc}
 use mathlib.Core.Bool.{Bool, true, false, cond}
 use native.Mathlib.Omega.{arith}
-use native.Mathlib.Nat.{mul-zero, zero-mul, suc-mul, add-zero, zero-add, mul-div-cancel, mul-mod-left}
+use native.Mathlib.Nat.{suc-mul, add-zero}
 use lib.Arith.{digits-div, digits-mod, lt-of-le-ne}
-use lib.Dec.{leb, ltb, eqb}
-use lib.ListN.{length, replicate, length-append, replicate-append-replicate}
-use borrow.Author.Tests.{eqb-true, eqb-false, ne-eqb, eq-eqb}
-use Rattle.words.specs.Lists.{joined, pieces}
+use lib.Dec.{eqb}
+use lib.ListN.{length, replicate, length-append}
+use borrow.Author.Tests.{eqb-true, eqb-false, ne-eqb}
 use Rattle.words.proofs.ListLaws.{pieces-nil, pieces-more, pieces-short}
-use Rattle.dictionary.specs.Dictionary.{Entry, plain, repeat, Run, run, runs-after, runs, rest, repeats, plains, gather, entries}
-use Rattle.dictionary.proofs.Stream.{lines-of, unpacked, State, empty, single, many, over, Step, to, flush, close, step, stream, step-single, step-many, step-over}
+use Rattle.dictionary.specs.Dictionary.{Entry, plain, repeat, Run, run, runs-after, rest, repeats, plains, gather, entries}
+use Rattle.dictionary.proofs.Stream.{lines-of, unpacked, State, empty, single, many, over, flush, close, step, stream, step-single, step-many, step-over}
 
 -- the words of the open entry
 abbrev pub pending : State → List ℕ

@@ -1,7 +1,7 @@
 -- Document 01, "The packed line dictionary", with the largest count of an entry as a parameter. Assumes nothing.
 use Prim.Native.Nat.{ℕ, zero, suc, _+_, _-_, _/_, _%_, _^_}
 use mathlib.Core.List.{List, [], _∷_, _++_, map}
-use mathlib.Core.Bool.{Bool, true, false, cond, _&&_}
+use mathlib.Core.Bool.{Bool, cond, _&&_}
 use lib.Dec.{leb, ltb, eqb}
 use lib.ListN.{length, getD, replicate, take, drop}
 use Rattle.words.specs.Lists.{pieces, joined, every, same}

@@ -1,5 +1,5 @@
 -- The front part that is handed back holds the rows listed. Assumes nothing.
-use mathlib.Core.Path.{_≡_, refl, sym, _∙_, ap, subst}
+use mathlib.Core.Path.{_≡_, refl, _∙_, ap}
 use Prim.Native.Nat.{ℕ, zero, suc, _≤_}
 use mathlib.Core.List.{List}
 use mathlib.Core.Bool.{Bool, true, false, cond, not}
@@ -15,7 +15,6 @@ use Rattle.bins.specs.Bins.{readings, good-borders}
 use Rattle.run_search.specs.Search.{search-by}
 use Rattle.column_index.specs.Index.{is-index-for}
 use Rattle.column_index.specs.Promise.{search-number, most-rows, search-answer}
-use Rattle.column_index.specs.declared.SearchAnswer.{SearchAnswer}
 use Rattle.column_index.specs.declared.SearchAnswer.the-variants as searching
 use Rattle.found_rows.specs.Whole.{figures-of, in-order, found, rows-after}
 use Rattle.found_rows.specs.Front.{handed, Fronts}

@@ -1,11 +1,10 @@
 -- Any list of searches over a column whose index lists what a plain scan lists: none is wasted without learning, and each gap is learnt at most once. Assumes nothing.
 use mathlib.Core.Path.{_≡_, refl, sym, ap, subst, _∙_}
-use mathlib.Core.Bool.{Bool, true, false, cond, not, _&&_, _||_}
-use mathlib.Core.Logic.{_⊎_, inl, inr, ⊎-elim}
+use mathlib.Core.Bool.{Bool, true, false, _||_}
+use mathlib.Core.Logic.{⊎-elim}
 use mathlib.Core.List.{List, [], _∷_}
-use Prim.Native.Nat.{ℕ, zero, suc, _+_, _-_, _*_, _^_, _≤_, _<_}
+use Prim.Native.Nat.{ℕ, _-_, _*_, _^_, _≤_, _<_}
 use native.Mathlib.Omega.{arith}
-use lib.Dec.{ltb}
 use lib.IntN.{ℤ, pos}
 use lib.ListN.{length}
 use borrow.Author.Tests.{le-ltb}
@@ -13,7 +12,7 @@ use Rattle.words.specs.Lists.{has, every}
 use Rattle.bins.specs.Bins.{readings}
 use Rattle.run_search.specs.Search.{search-by, scan}
 use Rattle.range_filter.specs.Tree.{treeOf, splits, paint}
-use Rattle.range_filter.specs.Layout.{Memory, treeIn, Filter}
+use Rattle.range_filter.specs.Layout.{Memory, Filter}
 use Rattle.range_filter.specs.Calls.{tooMany}
 use Rattle.range_filter.specs.Beside.{different}
 use Rattle.guarded_search.specs.Guarded.{keys, some-in, gap-low, gap-high}

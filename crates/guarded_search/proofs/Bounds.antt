@@ -1,16 +1,16 @@
 -- Demand 3 of what a filter remembers: D that gains only gaps of a column stays within k splits for each different key, and each gap is gained once. Assumes nothing.
-use mathlib.Core.Path.{_≡_, refl, sym, ap, subst, _∙_}
+use mathlib.Core.Path.{_≡_, refl, sym, ap, _∙_}
 use mathlib.Core.Bool.{Bool, true, false, cond, not, _&&_, _||_}
-use mathlib.Core.Logic.{_⊎_, inl, inr, ⊎-elim}
+use mathlib.Core.Logic.{_⊎_, inl, inr}
 use mathlib.Core.List.{List, [], _∷_}
 use Prim.Native.Nat.{ℕ, zero, suc, _+_, _-_, _*_, _^_, _≤_, _<_}
 use native.Mathlib.Decide.{decLt, decLe}
 use native.Mathlib.Numerals.{add-one}
 use native.Mathlib.Nat.{add-zero, add-suc}
 use native.Mathlib.Omega.{arith}
-use lib.Dec.{ltb, leb, eqb}
+use lib.Dec.{ltb, eqb}
 use lib.Pow.{pow-pos}
-use borrow.Author.Tests.{ltb-true, ltb-false, lt-ltb, le-ltb, eqb-true, eqb-false, eq-eqb, ne-eqb}
+use borrow.Author.Tests.{lt-ltb, le-ltb, eqb-true, eqb-false}
 use Rattle.words.specs.Lists.{has}
 use Rattle.range_filter.specs.Tree.{treeOf, splits, paint}
 use Rattle.halving_tree.specs.Form.{In-range}
@@ -20,7 +20,7 @@ use Rattle.halving_tree.proofs.PaintLaws.{paint-in, paint-out}
 use Rattle.range_filter.proofs.PromiseLaws.{all-in-is}
 use Rattle.range_filter.proofs.Bound.{bound-different}
 use Rattle.guarded_search.specs.Gaps.{follows, gap-start}
-use Rattle.guarded_search.proofs.GapLaws.{Free, Begins, Ends, Gap, not-both}
+use Rattle.guarded_search.proofs.GapLaws.{Begins, Ends, Gap, not-both}
 
 -- ---- what holds of D along searches of one column
 

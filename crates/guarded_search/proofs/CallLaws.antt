@@ -1,31 +1,28 @@
 -- The calls that the search with both makes, put together: what each says, and what follows for the answer and the lent words. Assumes nothing.
-use mathlib.Core.Path.{_≡_, refl, sym, ap, ap₂, subst, _∙_}
-use mathlib.Core.Bool.{Bool, true, false, cond, _&&_, _||_}
-use mathlib.Core.Logic.{_⊎_, inl, inr, ⊎-elim}
+use mathlib.Core.Path.{_≡_, refl, sym, ap, ap₂, _∙_}
+use mathlib.Core.Bool.{Bool, true, false, cond, _||_}
+use mathlib.Core.Logic.{⊎-elim}
 use mathlib.Core.List.{List, [], _∷_}
-use Prim.Native.Nat.{ℕ, zero, suc, _+_, _-_, _^_, _≤_, _<_}
+use Prim.Native.Nat.{ℕ, zero, suc, _-_, _^_, _≤_, _<_}
 use native.Mathlib.Omega.{arith}
-use lib.Dec.{ltb, leb, eqb}
+use lib.Dec.{ltb, eqb}
 use lib.IntN.{ℤ, pos}
 use lib.ListN.{length}
 use lib.Pow.{pow-mono}
-use lib.Seq.{sets}
-use lib.Signed.{ltZ}
-use borrow.Author.Tests.{ltb-false, leb-false, le-ltb, lt-leb, eqb-false}
-use Rattle.words.specs.Lists.{after, filled}
+use borrow.Author.Tests.{ltb-false, leb-false, le-ltb, lt-leb}
+use Rattle.words.specs.Lists.{after}
 use Rattle.words.specs.Numbers.{numbered}
 use Rattle.bins.specs.Bins.{readings}
 use Rattle.run_search.specs.Search.{Answer, nothing, search-by}
-use Rattle.column_index.specs.Promise.{checked-answer, search-answer, search-room, search-number, Searches}
+use Rattle.column_index.specs.Promise.{checked-answer, search-room, search-number, Searches}
 use Rattle.column_index.specs.declared.IndexCheck.{IndexCheck}
 use Rattle.column_index.specs.declared.IndexCheck.the-variants as checking
 use Rattle.column_index.specs.declared.SearchAnswer.{SearchAnswer}
 use Rattle.column_index.specs.declared.SearchAnswer.the-variants as searching
 use Rattle.column_index.proofs.CallLaws.{by-check, search-checked}
-use Rattle.range_filter.specs.Layout.{Memory, layout, Filter}
+use Rattle.range_filter.specs.Layout.{Memory, Filter}
 use Rattle.range_filter.specs.Calls.{allIn, learnt, tooMany}
-use Rattle.range_filter.specs.Promise.{wordsAfter, outside, Ask, askAnswer, Learn, learnAnswer, learntNumber, Read, readAnswer}
-use Rattle.range_filter.specs.declared.Asked.{Asked}
+use Rattle.range_filter.specs.Promise.{wordsAfter, outside, Ask, Learn, learnAnswer, learntNumber, Read}
 use Rattle.range_filter.specs.declared.Asked.the-variants as asked
 use Rattle.range_filter.specs.declared.Learnt.{Learnt as Taught}
 use Rattle.range_filter.specs.declared.Learnt.the-variants as taught
@@ -43,7 +40,7 @@ use Rattle.guarded_search.specs.declared.GuardAnswer.{GuardAnswer}
 use Rattle.guarded_search.specs.declared.GuardAnswer.the-variants as guard
 use Rattle.guarded_search.specs.declared.Gap.{Gap}
 use Rattle.guarded_search.proofs.GapLaws.{not-both, some-in-false, gap}
-use Rattle.guarded_search.proofs.GuardLaws.{by-tests, is-by-tests, listed, column-keys, with-gap}
+use Rattle.guarded_search.proofs.GuardLaws.{by-tests, is-by-tests, listed, with-gap}
 use Rattle.guarded_search.proofs.NarrowLaws.{narrowed-widest}
 use Rattle.guarded_search.proofs.TurnLaws.{laid-again}
 

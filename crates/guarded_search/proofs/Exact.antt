@@ -1,14 +1,14 @@
 -- Over a column whose index lists what a plain scan lists, every search with both that is done lists that too, whatever the filter learnt before. Assumes nothing.
 use mathlib.Core.Path.{_≡_, refl, sym, ap, subst, _∙_}
-use mathlib.Core.Bool.{Bool, true, false, cond, _&&_, _||_}
+use mathlib.Core.Bool.{Bool, true, false, cond, _||_}
 use mathlib.Core.List.{List, [], _∷_}
-use Prim.Native.Nat.{ℕ, zero, suc, _+_, _-_, _*_, _^_, _≤_, _<_}
+use Prim.Native.Nat.{ℕ, _-_, _^_, _<_}
 use native.Mathlib.Omega.{arith}
 use lib.Dec.{ltb}
 use lib.IntN.{ℤ, pos}
 use lib.ListN.{length, take}
-use borrow.Author.Tests.{ltb-false, leb-false}
-use Rattle.words.specs.Lists.{has, after}
+use borrow.Author.Tests.{leb-false}
+use Rattle.words.specs.Lists.{after}
 use Rattle.words.proofs.ListLaws.{take-filled}
 use Rattle.bins.specs.Bins.{readings}
 use Rattle.run_search.specs.Search.{Answer, search-by, scan}
@@ -20,14 +20,14 @@ use Rattle.range_filter.specs.Calls.{allIn}
 use Rattle.range_filter.specs.Promise.{outside}
 use Rattle.range_filter.proofs.PromiseLaws.{is-all-in}
 use Rattle.guarded_search.specs.Guarded.{keys, some-in, gap-low, gap-high, guarded}
-use Rattle.guarded_search.specs.Promise.{guard-number, guard-room, of-index, guard-answer, Guards}
+use Rattle.guarded_search.specs.Promise.{guard-number, guard-room, of-index, guard-answer}
 use Rattle.guarded_search.specs.Searching.{Turn, Searching, Lists, All-exact}
 use Rattle.guarded_search.specs.declared.Outcome.{Outcome}
 use Rattle.guarded_search.specs.declared.GuardAnswer.{GuardAnswer}
 use Rattle.guarded_search.specs.declared.GuardAnswer.the-variants as guard
 use Rattle.guarded_search.proofs.GapLaws.{not-both, some-in-false, free-some-in, gap}
 use Rattle.guarded_search.proofs.Bounds.{Calm, learnt-calm}
-use Rattle.guarded_search.proofs.GuardLaws.{with-gap, Looked, answer-ids, none-scan}
+use Rattle.guarded_search.proofs.GuardLaws.{with-gap, answer-ids, none-scan}
 use Rattle.guarded_search.proofs.TurnLaws.{Turned, same, more, waste, turned}
 
 -- the rows listed, by the answer

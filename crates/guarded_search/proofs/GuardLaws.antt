@@ -2,13 +2,12 @@
 use mathlib.Core.Path.{_≡_, refl, sym, ap, subst, _∙_}
 use mathlib.Core.Bool.{Bool, true, false, cond, _&&_, _||_, and-eq-true-iff}
 use mathlib.Core.List.{List, [], _∷_}
-use Prim.Native.Nat.{ℕ, zero, suc, _+_, _-_, _^_, _≤_, _<_}
+use Prim.Native.Nat.{ℕ, suc, _^_, _≤_, _<_}
 use native.Mathlib.Omega.{arith}
 use lib.Dec.{ltb, leb}
 use lib.IntN.{ℤ, pos, negsuc}
 use lib.ListN.{length}
-use lib.Signed.{leZ}
-use borrow.Author.Tests.{ltb-true, ltb-false, leb-true, leb-false, le-ltb}
+use borrow.Author.Tests.{ltb-false, leb-true, leb-false, le-ltb}
 use Rattle.bins.specs.Bins.{Kind, readings}
 use Rattle.bins.specs.Masks.{matches}
 use Rattle.run_search.specs.Search.{Answer, nothing, search-by, scan}
@@ -18,10 +17,9 @@ use Rattle.column_index.specs.declared.IndexCheck.the-variants as checking
 use Rattle.range_filter.specs.Layout.{Memory}
 use Rattle.range_filter.specs.Calls.{allIn, tooMany}
 use Rattle.range_filter.specs.Promise.{outside}
-use Rattle.guarded_search.specs.Guarded.{keys, some-in, Result, result, missed, looked, gap-learnt, guarded}
+use Rattle.guarded_search.specs.Guarded.{keys, some-in, Result, result, looked, gap-learnt, guarded}
 use Rattle.guarded_search.specs.Promise.{guard-number, guard-room, of-index, guard-answer}
 use Rattle.guarded_search.specs.Searching.{says-learnt, says-not-learnt}
-use Rattle.guarded_search.specs.declared.Outcome.{Outcome}
 use Rattle.guarded_search.specs.declared.Outcome.the-variants.{Denied, Found, Learnt, NotLearnt}
 use Rattle.guarded_search.specs.declared.GuardAnswer.{GuardAnswer}
 use Rattle.guarded_search.specs.declared.GuardAnswer.the-variants as guard

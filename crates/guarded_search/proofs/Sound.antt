@@ -1,23 +1,23 @@
 -- Soundness of denial with the search among the calls: what a search learns is a learning of the filter's own, of a range that holds no sample present. Assumes nothing.
-use mathlib.Core.Path.{_≡_, refl, sym, ap, subst, _∙_}
-use mathlib.Core.Bool.{Bool, true, false, cond, _&&_, _||_}
+use mathlib.Core.Path.{_≡_, refl, sym, subst}
+use mathlib.Core.Bool.{Bool, true, false, cond, _||_}
 use mathlib.Core.Logic.{_⊎_, inl, inr, ⊎-elim}
 use mathlib.Core.List.{List, [], _∷_, List·Memᴰ, List·Memᴰ·not-nil, List·Memᴰ·cases-cons}
-use Prim.Native.Nat.{ℕ, zero, suc, _+_, _-_, _^_, _≤_, _<_}
+use Prim.Native.Nat.{ℕ, _-_, _^_, _≤_, _<_}
 use native.Mathlib.Omega.{arith}
-use lib.Dec.{ltb, leb}
+use lib.Dec.{ltb}
 use lib.IntN.{ℤ, pos, negsuc}
 use lib.ListN.{length}
 use borrow.Author.Tests.{ltb-false, le-ltb, lt-leb, eq-eqb}
 use Rattle.words.specs.Lists.{has}
 use Rattle.bins.specs.Bins.{readings}
-use Rattle.run_search.specs.Search.{Answer, search-by}
+use Rattle.run_search.specs.Search.{Answer}
 use Rattle.column_index.specs.Promise.{checked-answer}
 use Rattle.column_index.specs.declared.IndexCheck.{IndexCheck}
 use Rattle.column_index.specs.declared.IndexCheck.the-variants as checking
-use Rattle.range_filter.specs.Layout.{Memory, layout, Filter}
-use Rattle.range_filter.specs.Calls.{allIn, learnt, tooMany}
-use Rattle.range_filter.specs.Promise.{Kept, outside, ofRange, wordsAfter, Ask, askAnswer, Learn, learnAnswer, learntNumber}
+use Rattle.range_filter.specs.Layout.{Memory, Filter}
+use Rattle.range_filter.specs.Calls.{learnt, tooMany}
+use Rattle.range_filter.specs.Promise.{outside, wordsAfter, Ask, askAnswer, Learn, learnAnswer, learntNumber}
 use Rattle.range_filter.specs.History.{NoneIn}
 use Rattle.range_filter.specs.History as filter
 use Rattle.range_filter.specs.declared.Asked.the-variants as asked
@@ -26,16 +26,16 @@ use Rattle.range_filter.proofs.Decide.{decide}
 use Rattle.range_filter.proofs.LayoutLaws.{one-meaning}
 use Rattle.range_filter.proofs.PromiseLaws.{kept-good}
 use Rattle.range_filter.proofs.Sound as filter-laws
-use Rattle.guarded_search.specs.Guarded.{keys, some-in, gap-low, gap-high, gap-learnt, Result, guarded}
-use Rattle.guarded_search.specs.Promise.{guard-number, guard-room, of-index, guard-answer, Guards}
-use Rattle.guarded_search.specs.Searching.{says-learnt, says-not-learnt}
+use Rattle.guarded_search.specs.Guarded.{keys, gap-low, gap-high, Result, guarded}
+use Rattle.guarded_search.specs.Promise.{guard-room, of-index, Guards}
+use Rattle.guarded_search.specs.Searching.{says-learnt}
 use Rattle.guarded_search.specs.History.{Stand, History, begins, taught, came, went, forgot, searched}
 use Rattle.guarded_search.specs.declared.Outcome.{Outcome}
-use Rattle.guarded_search.specs.declared.Outcome.the-variants.{Denied, Found, Learnt, NotLearnt}
+use Rattle.guarded_search.specs.declared.Outcome.the-variants.{Denied}
 use Rattle.guarded_search.specs.declared.GuardAnswer.{GuardAnswer}
 use Rattle.guarded_search.specs.declared.GuardAnswer.the-variants as guard
-use Rattle.guarded_search.proofs.GapLaws.{not-both, has-here, has-later, some-in-false, Free, Gap, gap}
-use Rattle.guarded_search.proofs.GuardLaws.{outcome-denied, with-gap, Looked}
+use Rattle.guarded_search.proofs.GapLaws.{not-both, has-later, some-in-false, Free, Gap, gap}
+use Rattle.guarded_search.proofs.GuardLaws.{outcome-denied}
 use Rattle.guarded_search.proofs.TurnLaws.{Turned, same, more, waste, turned}
 
 -- a value of the column that is a key is one of its keys

@@ -1,15 +1,14 @@
 -- One search with both, from words that are a filter: what the words mean afterwards, by what became of it. Assumes nothing.
 use mathlib.Core.Path.{_≡_, refl, sym, ap, subst, _∙_}
-use mathlib.Core.Bool.{Bool, true, false, cond, _||_}
-use mathlib.Core.List.{List, [], _∷_, _++_}
-use Prim.Native.Nat.{ℕ, _+_, _-_, _*_, _^_, _≤_, _<_}
+use mathlib.Core.Bool.{Bool, true, false, _||_}
+use mathlib.Core.List.{List, [], _++_}
+use Prim.Native.Nat.{ℕ, _≤_}
 use native.Mathlib.Omega.{arith}
 use lib.Dec.{eqb}
 use lib.IntN.{ℤ}
 use lib.ListN.{length, drop, length-append}
 use lib.Seq.{sets, drop-append-seam}
-use borrow.Author.Tests.{eqb-true, eqb-false, eq-eqb, ne-eqb, ltb-false}
-use Rattle.words.specs.Lists.{filled}
+use borrow.Author.Tests.{eqb-true, eq-eqb, ltb-false}
 use Rattle.words.proofs.ListLaws.{sets-filled}
 use Rattle.bins.specs.Bins.{readings}
 use Rattle.range_filter.specs.Tree.{splits}
@@ -18,10 +17,10 @@ use Rattle.range_filter.specs.Calls.{tooMany}
 use Rattle.range_filter.specs.Promise.{wordsAfter}
 use Rattle.range_filter.proofs.LayoutLaws.{fit, written}
 use Rattle.guarded_search.specs.Guarded.{some-in, Result, guarded}
-use Rattle.guarded_search.specs.Promise.{guard-number, guard-answer, Guards}
+use Rattle.guarded_search.specs.Promise.{guard-number, Guards}
 use Rattle.guarded_search.specs.Searching.{says-learnt, says-not-learnt}
 use Rattle.guarded_search.specs.declared.GuardAnswer.{GuardAnswer}
-use Rattle.guarded_search.proofs.GuardLaws.{column-keys, listed, with-gap, Looked, Became, stays, learning, wasting, became}
+use Rattle.guarded_search.proofs.GuardLaws.{column-keys, with-gap, Looked, Became, stays, learning, wasting, became}
 
 -- words that are laid out anew as they were stay as they were
 pub laid-again : (w : List ℕ) (m : Memory) → Filter w m → sets w 0 (layout m) ≡ w

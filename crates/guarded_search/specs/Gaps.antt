@@ -1,7 +1,7 @@
 -- Demand 3: the gaps between neighbouring keys and at the ends, each by its first key. Assumes nothing.
-use Prim.Native.Nat.{ℕ, zero, suc, _+_}
-use mathlib.Core.List.{List, [], _∷_}
-use mathlib.Core.Bool.{Bool, true, false, not, _&&_}
+use Prim.Native.Nat.{ℕ, zero, suc}
+use mathlib.Core.List.{List, []}
+use mathlib.Core.Bool.{Bool, true, not, _&&_}
 use Rattle.words.specs.Lists.{has}
 
 -- x is 0, or follows a key

@@ -1,7 +1,7 @@
 -- Document 01, "Search with both". Assumes nothing.
 use Prim.Native.Nat.{ℕ, suc, _-_, _^_, min, max}
 use mathlib.Core.List.{List, [], _∷_}
-use mathlib.Core.Bool.{Bool, true, false, cond, _&&_, _||_}
+use mathlib.Core.Bool.{Bool, false, cond, _&&_, _||_}
 use lib.Dec.{ltb, leb}
 use lib.IntN.{ℤ, pos, negsuc}
 use Rattle.bins.specs.Bins.{Kind}

@@ -15,7 +15,7 @@ use Rattle.column_index.specs.declared.IndexCheck.{IndexCheck}
 use Rattle.column_index.specs.declared.IndexCheck.the-variants as checking
 use Rattle.range_filter.specs.Layout.{Memory, Filter}
 use Rattle.range_filter.specs.Promise.{Kept, ofRange}
-use Rattle.guarded_search.specs.Guarded.{Result, guarded}
+use Rattle.guarded_search.specs.Guarded.{guarded}
 use Rattle.guarded_search.specs.declared.Outcome.{Outcome}
 use Rattle.guarded_search.specs.declared.Outcome.the-variants.{Denied, Found, Learnt, NotLearnt}
 use Rattle.guarded_search.specs.declared.GuardAnswer.{GuardAnswer}

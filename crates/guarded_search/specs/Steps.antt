@@ -14,7 +14,7 @@ use Rattle.range_filter.specs.Calls.{allIn, tooMany}
 use Rattle.range_filter.specs.Promise.{wordsAfter}
 use Rattle.range_filter.specs.declared.Learnt.{Learnt as Taught}
 use Rattle.range_filter.specs.declared.Learnt.the-variants as taught
-use Rattle.guarded_search.specs.Guarded.{keys, some-in, gap-learnt, missed, guarded}
+use Rattle.guarded_search.specs.Guarded.{keys, some-in, gap-learnt, guarded}
 use Rattle.guarded_search.specs.Promise.{guard-number, guard-room, of-index}
 use Rattle.guarded_search.specs.declared.Outcome.{Outcome}
 use Rattle.guarded_search.specs.declared.Outcome.the-variants.{Learnt, NotLearnt}

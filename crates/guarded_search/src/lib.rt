@@ -8,7 +8,6 @@ use range_filter::Reading;
 ghost use mathlib.Core.Path.{_≡_};
 ghost use Prim.Native.Nat.{_^_, _≤_, _<_, min, max};
 ghost use lib.IntN.{pos};
-ghost use lib.ListN.{length};
 ghost use Rattle.column_index.specs.Promise.{checked-answer};
 ghost use Rattle.guarded_search.specs.Promise.{of-index, Guards};
 ghost use Rattle.guarded_search.specs.Steps.{narrow-key, narrow, narrow-all, widest, taught-outcome, Looks, Missed, Sought};

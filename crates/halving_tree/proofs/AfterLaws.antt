@@ -1,16 +1,15 @@
 -- The cases of `after`, over plain numbers. Assumes nothing.
-use mathlib.Core.Path.{_≡_, refl, sym, ap, ap₂, subst, _∙_}
-use mathlib.Core.Bool.{Bool, true, false}
+use mathlib.Core.Path.{_≡_, ap, _∙_}
+use mathlib.Core.Bool.{Bool}
 use mathlib.Core.List.{List}
-use Prim.Native.Nat.{ℕ, zero, suc, _+_, _-_, _/_, _^_, _≤_, _<_}
+use Prim.Native.Nat.{ℕ, _-_, _/_, _^_, _≤_, _<_}
 use native.Mathlib.Omega.{arith}
 use lib.Pow.{pow-pos, pow-mono}
-use Rattle.halving_tree.specs.Tree.{Tree, leaf, node, join, shift, treeOf, splits, paint}
-use Rattle.halving_tree.specs.Encode.{size}
+use Rattle.halving_tree.specs.Tree.{leaf, join, shift, treeOf, splits, paint}
 use Rattle.halving_tree.specs.Place.{At}
 use Rattle.halving_tree.specs.Form.{formOf, splitsOf, joinForm, Laid, Halved, Sub, Spot, Parted}
 use Rattle.halving_tree.proofs.AskLaws.{half-is}
-use Rattle.halving_tree.proofs.PaintLaws.{paint-whole, paint-none, paint-parts}
+use Rattle.halving_tree.proofs.PaintLaws.{paint-whole, paint-parts}
 use Rattle.halving_tree.proofs.FormLaws.{size-splits, splits-lt, form-splits, form-join}
 
 -- a tree of at most 20 levels has few splits

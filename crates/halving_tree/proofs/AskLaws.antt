@@ -1,21 +1,18 @@
 -- The cases of `all_in`, over plain numbers. Assumes nothing.
-use mathlib.Core.Path.{_≡_, refl, sym, ap, ap₂, subst, _∙_}
+use mathlib.Core.Path.{_≡_, refl, sym, ap, subst, _∙_}
 use mathlib.Core.Bool.{Bool, true, false}
-use mathlib.Core.Logic.{_⊎_, inl, inr, ⊎-elim}
-use mathlib.Core.List.{List, [], _∷_, _++_}
+use mathlib.Core.List.{List, []}
 use Prim.Native.Nat.{ℕ, zero, suc, _+_, _-_, _/_, _^_, _≤_, _<_}
-use native.Mathlib.Nat.{two-pow-succ, add-sub-cancel-left}
+use native.Mathlib.Nat.{two-pow-succ}
 use native.Mathlib.Numerals.{sub-one}
-use native.Mathlib.Decide.{decLt, decLe}
+use native.Mathlib.Decide.{decLt}
 use native.Mathlib.Omega.{arith}
 use lib.ListN.{length, getD}
-use lib.Dec.{ltb, leb, lit<}
 use lib.Pow.{pow-pos}
 use Rattle.halving_tree.specs.Tree.{Tree, leaf, node, join, shift, treeOf}
 use Rattle.halving_tree.specs.Encode.{size, leafWord}
 use Rattle.halving_tree.specs.Place.{At, AllIn, Says, Place}
-use Rattle.halving_tree.proofs.Laws.{glue}
-use Rattle.halving_tree.proofs.Laws.{size-pos, at-in, at-room, at-unique, at-down, bit-lt, bit-inj, Parts}
+use Rattle.halving_tree.proofs.Laws.{at-in, at-down, bit-lt, bit-inj, Parts}
 use Rattle.halving_tree.proofs.SeenLaws.{bad-flat}
 
 -- a tree whose first word is below 2 is a leaf

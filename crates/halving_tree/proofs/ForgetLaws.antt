@@ -1,19 +1,19 @@
 -- The cases of `first_pair`. Assumes nothing.
-use mathlib.Core.Path.{_≡_, refl, sym, ap, ap₂, subst, _∙_}
-use mathlib.Core.Bool.{Bool, true, false}
+use mathlib.Core.Path.{_≡_, refl, sym, ap, ap₂, _∙_}
+use mathlib.Core.Bool.{Bool}
 use mathlib.Core.List.{List}
 use Prim.Native.Nat.{ℕ, zero, suc, _+_, _-_, _/_, _^_, _≤_, _<_}
 use native.Mathlib.Omega.{arith}
-use lib.ListN.{length, getD}
+use lib.ListN.{getD}
 use borrow.Author.Tests.{ne-eqb, eq-eqb}
-use Rattle.halving_tree.specs.Tree.{Tree, leaf, node, join, shift, treeOf}
-use Rattle.halving_tree.specs.Encode.{size, leafWord}
+use Rattle.halving_tree.specs.Tree.{Tree, leaf, node, shift, treeOf}
+use Rattle.halving_tree.specs.Encode.{leafWord}
 use Rattle.halving_tree.specs.Place.{At, Place}
-use Rattle.halving_tree.specs.Found.{orElse, moved, pickFound, pairHere, firstFrom, Below}
+use Rattle.halving_tree.specs.Found.{orElse, moved, pairHere, firstFrom, Below}
 use Rattle.halving_tree.specs.declared.Found.{Found}
 use Rattle.halving_tree.specs.declared.Found.the-variants.{Nothing, Pair}
-use Rattle.halving_tree.proofs.Laws.{at-in, bit-lt, treeOf-down, Parts}
-use Rattle.halving_tree.proofs.AskLaws.{at-leaf, half-is, deep, halves, right-at}
+use Rattle.halving_tree.proofs.Laws.{bit-lt, treeOf-down}
+use Rattle.halving_tree.proofs.AskLaws.{at-leaf, half-is, deep, halves}
 
 pub or-below : (f g : Found) (s : ℕ) → Below f s → Below g s → Below (orElse f g) s
 or-below Nothing g s a b = b

@@ -1,19 +1,17 @@
 -- The short form of a tree, and where its halves lie. Assumes nothing.
-use mathlib.Core.Path.{_≡_, refl, sym, ap, ap₂, subst, _∙_}
+use mathlib.Core.Path.{_≡_, refl, sym, ap, subst, _∙_}
 use mathlib.Core.Bool.{Bool, true, false}
-use mathlib.Core.List.{List, [], _∷_, _++_}
+use mathlib.Core.List.{List, []}
 use Prim.Native.Nat.{ℕ, zero, suc, _+_, _-_, _/_, _^_, _≤_, _<_}
 use native.Mathlib.Nat.{two-pow-succ}
 use native.Mathlib.Omega.{arith}
 use lib.ListN.{length, getD}
-use lib.Pow.{pow-pos, pow-mono}
-use Rattle.halving_tree.specs.Tree.{Tree, leaf, node, twin, beside, join, shift, treeOf, splits, paint}
+use Rattle.halving_tree.specs.Tree.{Tree, leaf, node, join, shift, treeOf, splits}
 use Rattle.halving_tree.specs.Encode.{size, leafWord}
-use Rattle.halving_tree.specs.Place.{At, Place}
-use Rattle.halving_tree.specs.Form.{formOf, splitsOf, joinForm, Laid, Halved, Sub, Spot}
-use Rattle.halving_tree.specs.declared.Form.{Form}
-use Rattle.halving_tree.specs.declared.Form.the-variants.{Out, In, Mixed}
-use Rattle.halving_tree.proofs.Laws.{size-pos, at-in, at-room, at-unique, at-down, bit-lt, treeOf-down, Parts}
+use Rattle.halving_tree.specs.Place.{At}
+use Rattle.halving_tree.specs.Form.{formOf, splitsOf, joinForm, Laid, Halved, Sub}
+use Rattle.halving_tree.specs.declared.Form.the-variants.{Mixed}
+use Rattle.halving_tree.proofs.Laws.{size-pos, at-in, at-room, at-unique, at-down, bit-lt, treeOf-down}
 use Rattle.halving_tree.proofs.AskLaws.{at-leaf, join-leaf}
 
 pub size-splits : (t : Tree) → size t ≡ splits t + splits t + 1

@@ -1,17 +1,16 @@
 -- Laws of the halving tree and its layout. Assumes nothing.
 use mathlib.Core.Path.{_≡_, refl, sym, ap, ap₂, subst, _∙_}
 use mathlib.Core.Bool.{Bool, true, false, cond}
-use mathlib.Core.List.{List, [], _∷_, _++_}
+use mathlib.Core.List.{List, []}
 use Prim.Native.Nat.{ℕ, zero, suc, _+_, _-_, _^_, _≤_, _<_}
 use native.Mathlib.Nat.{two-pow-succ, add-sub-cancel-left}
 use native.Mathlib.Numerals.{sub-one}
 use native.Mathlib.Omega.{arith}
-use lib.ListN.{length, getD, take, drop}
-use lib.Dec.{ltb, leb, lit<}
-use lib.Pow.{pow-pos}
+use lib.ListN.{length, getD}
+use lib.Dec.{ltb, lit<}
 use borrow.Author.Tests.{lt-ltb, le-ltb}
-use Rattle.halving_tree.specs.Tree.{Tree, leaf, node, twin, beside, join, shift, treeOf, splits, paint}
-use Rattle.halving_tree.specs.Encode.{size, leafWord, encode}
+use Rattle.halving_tree.specs.Tree.{Tree, leaf, node, twin, join, shift, treeOf}
+use Rattle.halving_tree.specs.Encode.{size, leafWord}
 use Rattle.halving_tree.specs.Place.{At}
 
 pub size-pos : (t : Tree) → 0 < size t

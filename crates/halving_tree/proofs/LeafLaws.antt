@@ -1,23 +1,21 @@
 -- The leaf that holds a key; taking it out of D adds no split. Assumes nothing.
-use mathlib.Core.Path.{_≡_, refl, sym, ap, ap₂, subst, _∙_}
+use mathlib.Core.Path.{_≡_, refl, sym, ap, subst, _∙_}
 use mathlib.Core.Bool.{Bool, true, false}
 use mathlib.Core.Logic.{_⊎_, inl, inr, ⊎-elim}
 use mathlib.Core.List.{List}
 use Prim.Native.Nat.{ℕ, zero, suc, _+_, _-_, _/_, _^_, _≤_, _<_}
-use native.Mathlib.Nat.{two-pow-succ}
 use native.Mathlib.Numerals.{sub-one}
 use native.Mathlib.Decide.{decLt}
 use native.Mathlib.Omega.{arith}
 use lib.ListN.{getD}
-use lib.Dec.{ltb}
 use lib.Pow.{pow-pos}
 use borrow.Author.Tests.{lt-ltb, le-ltb}
 use Rattle.halving_tree.specs.Tree.{Tree, leaf, node, join, shift, treeOf, splits, paint, leafLow, leafHigh}
-use Rattle.halving_tree.specs.Encode.{size, leafWord}
+use Rattle.halving_tree.specs.Encode.{leafWord}
 use Rattle.halving_tree.specs.Place.{At, Place, Holds}
-use Rattle.halving_tree.specs.Form.{Parted, In-range}
-use Rattle.halving_tree.proofs.Laws.{treeOf-down, Parts}
-use Rattle.halving_tree.proofs.AskLaws.{at-leaf, join-leaf, half-is, deep, halves}
+use Rattle.halving_tree.specs.Form.{Parted}
+use Rattle.halving_tree.proofs.Laws.{treeOf-down}
+use Rattle.halving_tree.proofs.AskLaws.{at-leaf, half-is, deep, halves}
 use Rattle.halving_tree.proofs.FormLaws.{join-splits}
 use Rattle.halving_tree.proofs.PaintLaws.{paint-whole, paint-parts, paint-none}
 

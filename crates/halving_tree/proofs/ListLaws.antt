@@ -1,16 +1,14 @@
 -- Laws of runs of stores, and a tree's layout as a list. Assumes nothing.
-use mathlib.Core.Path.{_≡_, refl, sym, ap, ap₂, subst, _∙_}
-use mathlib.Core.Bool.{Bool, true, false}
+use mathlib.Core.Path.{_≡_, refl, sym, ap, ap₂, _∙_}
 use mathlib.Core.List.{List, [], _∷_, _++_}
-use Prim.Native.Nat.{ℕ, zero, suc, _+_, _-_, _^_, _≤_, _<_}
-use native.Mathlib.Nat.{add-suc, suc-add}
+use Prim.Native.Nat.{ℕ, suc, _+_, _≤_, _<_}
 use native.Mathlib.Numerals.{add-one}
 use native.Mathlib.Omega.{arith}
-use lib.ListN.{length, getD, take, drop, set, length-append, length-drop, length-set}
-use lib.Seq.{sets, length-sets, set-comm, take-suc, drop-cons, getD-drop, length-take-le, take-add, drop-drop}
+use lib.ListN.{length, getD, take, drop, set, length-append, length-drop}
+use lib.Seq.{sets, set-comm, take-suc, drop-cons, getD-drop, length-take-le, take-add, drop-drop}
 use Rattle.words.proofs.ListLaws.{sets-append}
 use Rattle.halving_tree.specs.Tree.{Tree, leaf, node}
-use Rattle.halving_tree.specs.Encode.{size, leafWord, encode}
+use Rattle.halving_tree.specs.Encode.{size, encode}
 use Rattle.halving_tree.specs.Place.{At}
 
 pub set-sets : (xs l : List ℕ) (i j v : ℕ) → i < j → set (sets l j xs) i v ≡ sets (set l i v) j xs

@@ -1,12 +1,11 @@
 -- A set with a range put in or taken out, seen from its halves. Assumes nothing.
-use mathlib.Core.Path.{_≡_, refl, sym, ap, ap₂, subst, _∙_}
-use mathlib.Core.Bool.{Bool, true, false}
-use Prim.Native.Nat.{ℕ, zero, suc, _+_, _-_, _^_, _≤_, _<_}
+use mathlib.Core.Path.{_≡_, refl, sym, ap₂, _∙_}
+use mathlib.Core.Bool.{Bool}
+use Prim.Native.Nat.{ℕ, _+_, _-_, _^_, _≤_, _<_}
 use native.Mathlib.Decide.{decLe}
 use native.Mathlib.Omega.{arith}
 use borrow.Author.Tests.{le-leb, lt-leb}
-use Rattle.halving_tree.specs.Tree.{Tree, leaf, node, join, shift, treeOf, splits, paint}
-use Rattle.halving_tree.specs.Encode.{size}
+use Rattle.halving_tree.specs.Tree.{leaf, join, shift, treeOf, paint}
 use Rattle.halving_tree.specs.Form.{In-range, Parted}
 use Rattle.halving_tree.proofs.Laws.{treeOf-ext, treeOf-const, treeOf-down}
 

@@ -1,15 +1,15 @@
 -- The cases of `put`, over plain numbers and lists. Assumes nothing.
 use mathlib.Core.Path.{_≡_, refl, sym, ap, ap₂, subst, _∙_}
 use mathlib.Core.Bool.{Bool, true, false}
-use mathlib.Core.List.{List, [], _∷_, _++_}
+use mathlib.Core.List.{List, [], _∷_}
 use Prim.Native.Nat.{ℕ, zero, suc, _+_, _-_, _/_, _^_, _≤_, _<_}
 use native.Mathlib.Omega.{arith}
 use lib.ListN.{length, take, drop, set}
 use lib.Seq.{sets}
-use Rattle.halving_tree.specs.Tree.{Tree, leaf, node, twin, beside, join, shift, treeOf, splits, paint}
-use Rattle.halving_tree.specs.Encode.{size, leafWord, encode}
+use Rattle.halving_tree.specs.Tree.{Tree, leaf, node, join, shift, treeOf, paint}
+use Rattle.halving_tree.specs.Encode.{size, encode}
 use Rattle.halving_tree.specs.Place.{At}
-use Rattle.halving_tree.specs.Form.{formOf, kindOf, Halved, Spot, Parted, Fill, Wrote}
+use Rattle.halving_tree.specs.Form.{formOf, kindOf, Halved, Parted, Fill, Wrote}
 use Rattle.halving_tree.proofs.Laws.{at-room, at-unique, size-pos}
 use Rattle.halving_tree.proofs.PaintLaws.{paint-none}
 use Rattle.halving_tree.proofs.FormLaws.{size-splits}

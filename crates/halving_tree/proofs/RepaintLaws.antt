@@ -1,15 +1,15 @@
 -- The cases of `repaint`, over plain words. Assumes nothing.
-use mathlib.Core.Path.{_≡_, refl, sym, ap, subst, subst₂, _∙_}
+use mathlib.Core.Path.{_≡_, refl, sym, ap, subst₂, _∙_}
 use mathlib.Core.Bool.{Bool}
 use mathlib.Core.List.{List, [], _∷_, _++_, append-assoc}
-use Prim.Native.Nat.{ℕ, _+_, _≤_, _<_}
+use Prim.Native.Nat.{ℕ, _+_, _≤_}
 use native.Mathlib.Omega.{arith}
-use lib.ListN.{length, getD, take, drop, length-append}
+use lib.ListN.{length, take, drop, length-append}
 use lib.Seq.{sets, sets-eq, length-take-le, getD-append-seam}
-use Rattle.halving_tree.specs.Tree.{Tree, leaf, node, treeOf, paint}
+use Rattle.halving_tree.specs.Tree.{Tree, leaf, node, treeOf}
 use Rattle.halving_tree.specs.Encode.{size, leafWord, encode}
 use Rattle.halving_tree.specs.Place.{At}
-use Rattle.halving_tree.specs.Form.{Spot, Fill}
+use Rattle.halving_tree.specs.Form.{Fill}
 use Rattle.halving_tree.specs.Repaint.{Ready}
 use Rattle.halving_tree.proofs.Laws.{at-unique, at-room}
 use Rattle.halving_tree.proofs.ListLaws.{length-encode, at-encode}

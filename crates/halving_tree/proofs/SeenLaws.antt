@@ -1,17 +1,15 @@
 -- The cases of `valid`, over plain numbers: what its two calls said of the halves, said of the whole. Assumes nothing.
-use mathlib.Core.Path.{_≡_, refl, sym, ap, ap₂, subst, _∙_}
+use mathlib.Core.Path.{_≡_, refl, sym, ap, subst, _∙_}
 use mathlib.Core.Bool.{Bool, true, false}
-use mathlib.Core.List.{List, [], _∷_, _++_}
+use mathlib.Core.List.{List, []}
 use Prim.Native.Nat.{ℕ, zero, suc, _+_, _-_, _^_, _≤_, _<_}
 use native.Mathlib.Omega.{arith}
 use lib.ListN.{length, getD}
-use lib.Dec.{ltb, leb, lit<}
-use Rattle.halving_tree.specs.Tree.{Tree, leaf, node, join, shift, treeOf}
+use Rattle.halving_tree.specs.Tree.{shift, treeOf}
 use Rattle.halving_tree.specs.Encode.{size, leafWord}
 use Rattle.halving_tree.specs.Place.{At}
 use Rattle.halving_tree.proofs.Laws.{glue}
 use Rattle.halving_tree.specs.Seen.{Saw}
-use Rattle.halving_tree.specs.declared.Seen.{Seen}
 use Rattle.halving_tree.specs.declared.Seen.the-variants.{Bad, Good}
 use Rattle.halving_tree.proofs.Laws.{size-pos, at-in, at-room, at-unique, at-down, parts-at, differ, twins, bit-lt, treeOf-const, treeOf-up, Parts}
 

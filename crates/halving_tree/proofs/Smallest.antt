@@ -1,10 +1,10 @@
 -- The tree of D has its leaves wholly in D or wholly outside, and no such tree has fewer splits. Assumes nothing.
-use mathlib.Core.Path.{_≡_, refl, sym, ap, subst, _∙_}
-use mathlib.Core.Bool.{Bool, true, false}
-use mathlib.Core.Logic.{_⊎_, inl, inr, ⊎-elim}
-use Prim.Native.Nat.{ℕ, _+_, _-_, _^_, _≤_, _<_}
+use mathlib.Core.Path.{_≡_, sym, ap, subst, _∙_}
+use mathlib.Core.Bool.{Bool}
+use mathlib.Core.Logic.{⊎-elim}
+use Prim.Native.Nat.{ℕ, _-_, _^_, _≤_}
 use native.Mathlib.Omega.{arith}
-use Rattle.halving_tree.specs.Tree.{Tree, leaf, node, join, shift, treeOf, splits}
+use Rattle.halving_tree.specs.Tree.{Tree, leaf, node, shift, treeOf, splits}
 use Rattle.halving_tree.specs.Smallest.{Fits}
 use Rattle.halving_tree.proofs.Laws.{treeOf-ext, treeOf-const, treeOf-down}
 use Rattle.halving_tree.proofs.AskLaws.{leaf-all}

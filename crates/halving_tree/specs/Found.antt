@@ -1,7 +1,6 @@
 -- The split with two leaves that forgetting takes: the one of lowest start at or after a key.
-use mathlib.Core.Path.{_≡_}
 use mathlib.Core.Bool.{Bool, true, false}
-use Prim.Native.Nat.{ℕ, _+_, _-_, _^_, _≤_, _<_}
+use Prim.Native.Nat.{ℕ, _+_, _-_, _^_, _<_}
 use lib.Dec.{eqb}
 use Rattle.halving_tree.specs.Tree.{Tree, leaf, node}
 use Rattle.halving_tree.specs.declared.Found.{Found}

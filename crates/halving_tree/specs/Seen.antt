@@ -3,7 +3,7 @@ use mathlib.Core.Path.{_≡_}
 use mathlib.Core.Bool.{Bool}
 use mathlib.Core.List.{List}
 use Prim.Native.Nat.{ℕ}
-use Rattle.halving_tree.specs.Tree.{Tree, treeOf}
+use Rattle.halving_tree.specs.Tree.{treeOf}
 use Rattle.halving_tree.specs.Encode.{size}
 use Rattle.halving_tree.specs.Place.{At}
 use Rattle.halving_tree.specs.declared.Seen.{Seen}

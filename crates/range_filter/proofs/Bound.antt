@@ -1,6 +1,6 @@
 -- Where D changes only next to one of some keys, its smallest tree has at most k splits for each of those keys. Assumes nothing.
 use mathlib.Core.Path.{_≡_, refl, sym, ap, ap₂, subst, _∙_}
-use mathlib.Core.Bool.{Bool, true, false, cond, not, _&&_, _||_}
+use mathlib.Core.Bool.{Bool, true, false, _||_}
 use mathlib.Core.List.{List, [], _∷_}
 use lib.Dec.{ltb, eqb}
 use borrow.Author.Tests.{ltb-true, ltb-false, eq-eqb, ne-eqb, eqb-true, eqb-false}
@@ -10,8 +10,7 @@ use Prim.Native.Nat.{ℕ, zero, suc, _+_, _-_, _*_, _^_, _≤_, _<_}
 use native.Mathlib.Nat.{two-pow-succ, mul-add, suc-mul, add-zero}
 use native.Mathlib.Numerals.{add-one}
 use native.Mathlib.Omega.{arith}
-use lib.Pow.{pow-pos}
-use Rattle.halving_tree.specs.Tree.{Tree, leaf, node, join, shift, treeOf, splits, paint}
+use Rattle.halving_tree.specs.Tree.{shift, treeOf, splits, paint}
 use Rattle.halving_tree.proofs.PaintLaws.{paint-in, paint-out}
 use Rattle.halving_tree.specs.Encode.{leafWord}
 use Rattle.words.specs.Lists.{has}

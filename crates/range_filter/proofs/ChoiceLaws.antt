@@ -2,15 +2,14 @@
 use mathlib.Core.Path.{_≡_, refl, sym, ap, ap₂, subst, _∙_}
 use mathlib.Core.Bool.{Bool, true, false, cond}
 use mathlib.Core.List.{List, [], _∷_, _++_}
-use mathlib.Core.Logic.{_⊎_, inl, inr, ⊎-elim}
-use Prim.Native.Nat.{ℕ, zero, suc, _+_, _-_, _^_, _≤_, _<_}
+use mathlib.Core.Logic.{_⊎_, inl, inr}
+use Prim.Native.Nat.{ℕ, _+_, _-_, _^_, _≤_}
 use native.Mathlib.Omega.{arith}
 use lib.Dec.{leb, eqb}
 use lib.Pow.{pow-pos}
 use borrow.Author.Tests.{le-leb, lt-leb, eq-eqb, ne-eqb, leb-true, leb-false}
-use Rattle.halving_tree.specs.Tree.{Tree, leaf, node, join, shift, treeOf, splits, paint}
+use Rattle.halving_tree.specs.Tree.{Tree, leaf, node, join, shift, treeOf}
 use Rattle.range_filter.specs.Calls.{Choice, none, split, pairs, lower, startsFrom, lowestFrom, single}
-use Rattle.range_filter.specs.Calls as calls
 use Rattle.halving_tree.specs.Found.{orElse, moved, pickFound, pairHere, firstFrom, Below}
 use Rattle.halving_tree.specs.declared.Found.{Found}
 use Rattle.halving_tree.specs.declared.Found.the-variants.{Nothing, Pair}

@@ -1,11 +1,11 @@
 -- The split that forget takes: taking its keys out adds no split; and what the code finds is what document 01 chooses. Assumes nothing.
-use mathlib.Core.Path.{_≡_, refl, sym, ap, ap₂, subst, subst₂, _∙_}
-use mathlib.Core.Bool.{Bool, true, false, cond}
-use mathlib.Core.List.{List, [], _∷_, _++_}
+use mathlib.Core.Path.{_≡_, refl, sym, ap, ap₂, _∙_}
+use mathlib.Core.Bool.{Bool, true, false}
+use mathlib.Core.List.{List, []}
 use mathlib.Core.Logic.{_⊎_, inl, inr, ⊎-elim}
-use Prim.Native.Nat.{ℕ, zero, suc, _+_, _-_, _^_, _≤_, _<_}
+use Prim.Native.Nat.{ℕ, suc, _+_, _-_, _^_, _≤_}
 use native.Mathlib.Omega.{arith}
-use lib.Dec.{leb, eqb}
+use lib.Dec.{eqb}
 use lib.ListN.{set}
 use lib.Seq.{sets, set-getD}
 use borrow.Author.Tests.{eq-eqb, ne-eqb}
@@ -13,9 +13,9 @@ use native.Mathlib.Numerals.{add-one}
 use Rattle.halving_tree.specs.Tree.{Tree, leaf, node, join, shift, treeOf, splits, paint}
 use Rattle.halving_tree.specs.Encode.{encode}
 use Rattle.range_filter.specs.Layout.{Memory, treeIn, layout, Filter}
-use Rattle.range_filter.specs.Calls.{Choice, none, split, pairs, lowestFrom, single, chosen, keyAfter, without, forgotten}
+use Rattle.range_filter.specs.Calls.{split, pairs, lowestFrom, single, chosen, keyAfter, without, forgotten}
 use Rattle.range_filter.specs.Calls as calls
-use Rattle.halving_tree.specs.Found.{orElse, moved, pickFound, pairHere, firstFrom, Below, walk}
+use Rattle.halving_tree.specs.Found.{orElse, moved, pickFound, pairHere, firstFrom, walk}
 use Rattle.halving_tree.specs.Place.{At}
 use Rattle.halving_tree.specs.Repaint.{Painted}
 use Rattle.range_filter.specs.Loaded.{Heads}

@@ -1,17 +1,17 @@
 -- The cases of `fresh`, over plain numbers. Assumes nothing.
-use mathlib.Core.Path.{_≡_, refl, sym, ap, _∙_}
-use mathlib.Core.Bool.{Bool, true, false, cond, _||_}
+use mathlib.Core.Path.{_≡_, refl, sym, ap}
+use mathlib.Core.Bool.{false}
 use mathlib.Core.List.{List, [], _∷_}
-use Prim.Native.Nat.{ℕ, _+_, _*_, _≤_, _<_}
+use Prim.Native.Nat.{ℕ, _≤_, _<_}
 use native.Mathlib.Omega.{arith}
 use lib.ListN.{length, set}
 use lib.Seq.{sets}
 use borrow.Author.Tests.{lt-ltb, le-ltb}
-use Rattle.halving_tree.specs.Tree.{Tree, treeOf}
+use Rattle.halving_tree.specs.Tree.{Tree}
 use Rattle.halving_tree.specs.Encode.{encode}
 use Rattle.range_filter.specs.Layout.{layout, wordsNeeded}
 use Rattle.range_filter.specs.Calls.{freshMemory}
-use Rattle.range_filter.specs.Promise.{Fresh, freshAnswer}
+use Rattle.range_filter.specs.Promise.{Fresh}
 use Rattle.range_filter.specs.declared.Made.the-variants.{Levels, Room, Short, Done}
 use Rattle.halving_tree.proofs.Laws.{treeOf-const}
 use Rattle.range_filter.proofs.PromiseLaws.{or-true}

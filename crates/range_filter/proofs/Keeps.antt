@@ -1,18 +1,18 @@
 -- A call leaves a filter where it found one, and what the words mean afterwards. Assumes nothing.
-use mathlib.Core.Path.{_≡_, refl, sym, ap, subst, subst₂, _∙_}
+use mathlib.Core.Path.{_≡_, refl, sym, ap, subst, _∙_}
 use mathlib.Core.Bool.{Bool, true, false, cond, _||_}
-use mathlib.Core.List.{List, [], _∷_}
-use Prim.Native.Nat.{ℕ, suc, _+_, _-_, _*_, _^_, _≤_, _<_}
+use mathlib.Core.List.{List, []}
+use Prim.Native.Nat.{ℕ, suc, _^_, _≤_, _<_}
 use native.Mathlib.Omega.{arith}
-use lib.Dec.{ltb, leb, eqb}
+use lib.Dec.{ltb, eqb}
 use lib.ListN.{length}
 use lib.Seq.{sets}
 use lib.Pow.{pow-pos}
-use borrow.Author.Tests.{eq-eqb, eqb-true, eqb-false, ltb-false, leb-false}
-use Rattle.halving_tree.specs.Tree.{Tree, leaf, treeOf, splits, leafLow, leafHigh, paint}
+use borrow.Author.Tests.{eq-eqb, eqb-true, eqb-false, ltb-false}
+use Rattle.halving_tree.specs.Tree.{splits, leafLow, leafHigh}
 use Rattle.range_filter.specs.Layout.{Memory, treeIn, layout, wordsNeeded, Filter}
-use Rattle.range_filter.specs.Calls.{Choice, none, split, freshMemory, withSet, learnt, tooMany, arrived, chosen, keyAfter, without, forgotten}
-use Rattle.range_filter.specs.Promise.{Told, Kept, wordsAfter, outside, Fresh, madeNumber, freshAnswer, learntNumber, learnAnswer, Learn, arrivedNumber, Arrive, forgotNumber, Forget}
+use Rattle.range_filter.specs.Calls.{Choice, split, freshMemory, learnt, tooMany, arrived, keyAfter, without, forgotten}
+use Rattle.range_filter.specs.Promise.{Kept, wordsAfter, outside, Fresh, madeNumber, learntNumber, learnAnswer, Learn, arrivedNumber, Arrive, forgotNumber, Forget}
 use Rattle.halving_tree.specs.Found.{walk}
 use Rattle.halving_tree.specs.declared.Found.{Found}
 use Rattle.halving_tree.specs.declared.Found.the-variants.{Nothing, Pair}

@@ -1,16 +1,15 @@
 -- A layout in words: it is laid out where it stands, words that are a filter have one meaning, and a layout that is written means what was written. Assumes nothing.
-use mathlib.Core.Path.{_≡_, refl, sym, ap, ap₂, subst, subst₂, _∙_}
-use mathlib.Core.Bool.{Bool, true, false}
-use mathlib.Core.List.{List, [], _∷_, _++_, append-assoc}
-use Prim.Native.Nat.{ℕ, zero, suc, _+_, _-_, _*_, _^_, _≤_, _<_}
+use mathlib.Core.Path.{_≡_, refl, sym, ap, ap₂, subst, _∙_}
+use mathlib.Core.List.{List, [], _∷_, _++_}
+use Prim.Native.Nat.{ℕ, zero, suc, _+_, _^_, _≤_, _<_}
 use native.Mathlib.Omega.{arith}
-use lib.ListN.{length, getD, take, drop, set, length-append}
-use lib.Seq.{sets, sets-eq, length-sets, getD-append-seam, take-append-seam}
-use Rattle.halving_tree.specs.Tree.{Tree, leaf, node, treeOf, splits}
-use Rattle.halving_tree.specs.Encode.{size, leafWord, encode}
+use lib.ListN.{length, getD, take, drop, set}
+use lib.Seq.{sets, sets-eq, length-sets}
+use Rattle.halving_tree.specs.Tree.{treeOf, splits}
+use Rattle.halving_tree.specs.Encode.{size, encode}
 use Rattle.range_filter.specs.Layout.{Memory, treeIn, layout, wordsNeeded, Filter}
 use Rattle.halving_tree.specs.Place.{At}
-use Rattle.halving_tree.proofs.Laws.{at-unique, at-room}
+use Rattle.halving_tree.proofs.Laws.{at-unique}
 use Rattle.halving_tree.proofs.FormLaws.{size-splits}
 use Rattle.halving_tree.proofs.ListLaws.{length-encode, at-encode}
 use Rattle.halving_tree.proofs.OneTree.{one-tree}

@@ -1,26 +1,25 @@
 -- From what the header says to what the calls that change the tree need and do. Assumes nothing.
-use mathlib.Core.Path.{_≡_, refl, sym, ap, ap₂, subst, _∙_}
-use mathlib.Core.Bool.{Bool, true, false, cond}
+use mathlib.Core.Path.{_≡_, sym, ap, ap₂, subst, _∙_}
+use mathlib.Core.Bool.{Bool, true, false}
 use mathlib.Core.List.{List, [], _∷_}
-use Prim.Native.Nat.{ℕ, zero, suc, _+_, _-_, _*_, _^_, _≤_, _<_}
+use Prim.Native.Nat.{ℕ, _^_, _≤_, _<_}
 use native.Mathlib.Omega.{arith}
-use lib.Dec.{ltb}
-use lib.ListN.{length, getD, set}
-use lib.Seq.{sets, set-getD, getD-set-other}
+use lib.ListN.{set}
+use lib.Seq.{sets, set-getD}
 use lib.Pow.{pow-mono}
 use borrow.Author.Tests.{lt-ltb, le-ltb}
 use Rattle.halving_tree.specs.Tree.{Tree, treeOf, splits, paint}
 use Rattle.halving_tree.specs.Encode.{size, encode}
 use Rattle.range_filter.specs.Layout.{Memory, treeIn, layout, Filter}
 use Rattle.range_filter.specs.Calls.{withSet, learnt, tooMany, arrived}
-use Rattle.halving_tree.specs.Place.{At, Place, Holds}
-use Rattle.halving_tree.specs.Form.{formOf, splitsOf, Spot, Fill}
+use Rattle.halving_tree.specs.Place.{At, Holds}
+use Rattle.halving_tree.specs.Form.{formOf, splitsOf, Spot}
 use Rattle.halving_tree.specs.Repaint.{Ready, Painted}
 use Rattle.range_filter.specs.Loaded.{Heads}
 use Rattle.range_filter.specs.declared.Head.{Head}
 use Rattle.halving_tree.specs.declared.Form.{Form}
 use Rattle.halving_tree.proofs.FormLaws.{size-splits, form-splits}
-use Rattle.range_filter.proofs.LayoutLaws.{levels-word, room-word, hand-word, tree-at}
+use Rattle.range_filter.proofs.LayoutLaws.{levels-word, room-word, hand-word}
 use Rattle.range_filter.proofs.PromiseLaws.{tree-here}
 use Rattle.halving_tree.proofs.LeafLaws.{taken}
 use Rattle.range_filter.proofs.ReadLaws.{few-words}

@@ -1,14 +1,12 @@
 -- The cases of `load`, over plain words. Assumes nothing.
-use mathlib.Core.Path.{_≡_, refl, sym, ap, subst, _∙_}
-use mathlib.Core.Bool.{Bool, true, false}
-use mathlib.Core.List.{List, [], _∷_, _++_}
-use Prim.Native.Nat.{ℕ, zero, suc, _+_, _-_, _*_, _^_, _≤_, _<_}
+use mathlib.Core.Path.{_≡_, refl, ap, _∙_}
+use mathlib.Core.List.{List, []}
+use Prim.Native.Nat.{ℕ, _+_, _*_, _^_, _≤_, _<_}
 use native.Mathlib.Omega.{arith}
 use lib.ListN.{length, getD}
-use Rattle.halving_tree.specs.Tree.{Tree, treeOf, splits}
+use Rattle.halving_tree.specs.Tree.{treeOf}
 use Rattle.halving_tree.specs.Encode.{size}
 use Rattle.range_filter.specs.Layout.{Memory, treeIn, Filter}
-use Rattle.halving_tree.specs.Place.{At}
 use Rattle.halving_tree.specs.Seen.{Saw}
 use Rattle.halving_tree.specs.declared.Seen.the-variants.{Bad, Good}
 use Rattle.halving_tree.proofs.Laws.{at-unique}

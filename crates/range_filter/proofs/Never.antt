@@ -1,5 +1,5 @@
 -- Words left by a fresh filter and any calls are a filter, so no call on them answers 8. Assumes nothing.
-use mathlib.Core.Path.{_≡_, refl, sym, ap, _∙_}
+use mathlib.Core.Path.{_≡_, sym, ap, _∙_}
 use mathlib.Core.Bool.{Bool, true, false, cond, _||_}
 use mathlib.Core.List.{List}
 use Prim.Native.Nat.{ℕ}
@@ -8,7 +8,7 @@ use lib.Dec.{ltb}
 use Rattle.words.specs.Numbers.{numbered, no-filter}
 use Rattle.range_filter.specs.Layout.{Memory, treeIn, Filter}
 use Rattle.range_filter.specs.Calls.{freshMemory, allIn, learnt, tooMany, arrived, single, forgotten}
-use Rattle.range_filter.specs.Promise.{Told, outside, Ask, askedNumber, askAnswer, Depart, departedNumber, departAnswer, Read, readingNumber, Learn, learntNumber, learnAnswer, Arrive, arrivedNumber, arriveAnswer, Forget, forgotNumber, forgetAnswer}
+use Rattle.range_filter.specs.Promise.{Told, outside, Ask, askedNumber, Depart, departedNumber, Read, readingNumber, Learn, learntNumber, Arrive, arrivedNumber, Forget, forgotNumber}
 use Rattle.range_filter.specs.History.{Left, made, learns, arrives, forgets}
 use Rattle.range_filter.specs.declared.Asked.{Asked}
 use Rattle.range_filter.specs.declared.Asked.the-variants as asked

@@ -1,12 +1,10 @@
 -- Nothing else satisfies a promise, and an answer other than 0 changes nothing: each said once for all calls. Assumes nothing.
-use mathlib.Core.Path.{_≡_, refl, sym, ap, subst, _∙_}
-use mathlib.Core.Bool.{Bool, true, false, cond}
-use mathlib.Core.Logic.{_⊎_, inl, inr, ⊎-elim}
+use mathlib.Core.Path.{_≡_, sym, ap, _∙_}
+use mathlib.Core.Logic.{⊎-elim}
 use mathlib.Core.List.{List}
 use Prim.Native.Nat.{ℕ}
-use lib.Dec.{eqb}
 use borrow.Author.Tests.{ne-eqb}
-use Rattle.range_filter.specs.Layout.{Memory, Filter}
+use Rattle.range_filter.specs.Layout.{Memory}
 use Rattle.range_filter.specs.Promise.{Told, Kept, wordsAfter, Fresh, madeNumber, Ask, Depart, Read, Learn, learntNumber, Arrive, arrivedNumber, Forget, forgotNumber}
 use Rattle.range_filter.specs.declared.Made.{Made}
 use Rattle.range_filter.specs.declared.Asked.{Asked}

@@ -1,6 +1,6 @@
 -- The header and the words of the tree say what `read` answers. Assumes nothing.
 use mathlib.Core.Path.{_≡_, ap₂, _∙_}
-use Prim.Native.Nat.{ℕ, _+_, _/_, _≤_, _<_}
+use Prim.Native.Nat.{ℕ, _/_, _≤_}
 use mathlib.Core.List.{List}
 use native.Mathlib.Omega.{arith}
 use Rattle.halving_tree.specs.Tree.{splits}

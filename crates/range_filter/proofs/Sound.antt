@@ -2,19 +2,17 @@
 use mathlib.Core.Path.{_≡_, refl, sym, ap, subst, _∙_}
 use mathlib.Core.Bool.{Bool, true, false, cond, _||_}
 use mathlib.Core.List.{List, [], _∷_}
-use Prim.Native.Nat.{ℕ, zero, suc, _+_, _-_, _^_, _≤_, _<_}
+use Prim.Native.Nat.{ℕ, _+_, _-_, _^_, _≤_, _<_}
 use native.Mathlib.Decide.{decLt, decLe}
 use native.Mathlib.Omega.{arith}
-use lib.Dec.{ltb, leb, eqb}
-use lib.Pow.{pow-pos}
+use lib.Dec.{ltb, eqb}
 use borrow.Author.Tests.{lt-ltb, le-ltb, eqb-true, eqb-false, leb-false, leb-true}
-use Rattle.halving_tree.specs.Tree.{Tree, leaf, node, treeOf, leafLow, leafHigh, paint}
+use Rattle.halving_tree.specs.Tree.{Tree, leaf, node, leafLow, leafHigh, paint}
 use Rattle.range_filter.specs.Layout.{Memory, treeIn, Filter}
-use Rattle.range_filter.specs.Calls.{split, freshMemory, allIn, learnt, tooMany, arrived, without, forgotten}
-use Rattle.range_filter.specs.Promise.{outside, Ask, askAnswer, learntNumber, arrivedNumber, arriveAnswer, Arrive, forgotNumber}
+use Rattle.range_filter.specs.Calls.{split, freshMemory, allIn, learnt, arrived, without, forgotten}
+use Rattle.range_filter.specs.Promise.{outside, Ask, learntNumber, arrivedNumber, Arrive, forgotNumber}
 use Rattle.halving_tree.specs.Form.{In-range}
 use Rattle.range_filter.specs.History.{NoneIn, oneLess, History, begins, taught, came, went, forgot}
-use Rattle.range_filter.specs.declared.Asked.{Asked}
 use Rattle.range_filter.specs.declared.Asked.the-variants as asked
 use Rattle.range_filter.specs.declared.Arrived.{Arrived}
 use Rattle.range_filter.specs.declared.Arrived.the-variants as came

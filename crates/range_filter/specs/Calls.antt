@@ -3,7 +3,7 @@ use mathlib.Core.Bool.{Bool, true, false, cond, _&&_}
 use mathlib.Core.List.{List, [], _∷_, _++_}
 use Prim.Native.Nat.{ℕ, zero, suc, _+_, _-_, _^_}
 use lib.Dec.{ltb, leb, eqb}
-use Rattle.halving_tree.specs.Tree.{Tree, leaf, node, treeOf, splits, leafLow, leafHigh, paint}
+use Rattle.halving_tree.specs.Tree.{Tree, leaf, node, splits, leafLow, leafHigh, paint}
 use Rattle.range_filter.specs.Layout.{Memory, treeIn}
 
 -- fresh: no key is remembered, and the hand is 0

@@ -1,12 +1,12 @@
 -- Document 01, "Numbers it comes back with" and "The filter tree": what each call answers, refusals in their order, and every lent word afterwards. Assumes nothing.
 use mathlib.Core.Path.{_≡_}
-use mathlib.Core.Bool.{Bool, true, false, cond, _||_}
+use mathlib.Core.Bool.{Bool, cond, _||_}
 use mathlib.Core.List.{List, [], _∷_}
 use Prim.Native.Nat.{ℕ, _^_}
 use lib.Dec.{ltb, leb, eqb}
 use lib.ListN.{length}
 use lib.Seq.{sets}
-use Rattle.words.specs.Numbers.{Number, numbered, done, low-above-high, space-too-short, bad-levels, no-key, no-filter, no-room, nothing-to-forget, room-too-large}
+use Rattle.words.specs.Numbers.{numbered, done, low-above-high, space-too-short, bad-levels, no-key, no-filter, no-room, nothing-to-forget, room-too-large}
 use Rattle.halving_tree.specs.Tree.{splits}
 use Rattle.range_filter.specs.Layout.{Memory, treeIn, layout, wordsNeeded, Filter}
 use Rattle.range_filter.specs.Calls.{freshMemory, allIn, learnt, tooMany, arrived, single, forgotten}

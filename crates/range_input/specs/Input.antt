@@ -1,5 +1,5 @@
 -- Document 01, "The program reads from standard input": low, high, then up to 8,192 values, each 4 bytes, low byte first. Assumes nothing.
-use Prim.Native.Nat.{ℕ, _+_, _-_, _*_, _/_, _%_, _^_}
+use Prim.Native.Nat.{ℕ, _+_, _-_, _*_, _/_, _%_}
 use mathlib.Core.Path.{_≡_}
 use mathlib.Core.List.{List, map}
 use mathlib.Core.Bool.{Bool, cond, _&&_}

@@ -1,22 +1,22 @@
 -- A column of at most 8,192 rows with its own index: build answers 0, and search answers 0 or 1. Assumes nothing.
-use Prim.Native.Nat.{ℕ, zero, suc, _+_, _<_, _≤_}
+use Prim.Native.Nat.{ℕ, suc, _<_, _≤_}
 use mathlib.Core.Path.{_≡_, refl, sym, _∙_, ap, subst}
-use mathlib.Core.List.{List, [], _∷_, _++_}
-use mathlib.Core.Bool.{Bool, true, false, cond, not, and-eq-true-iff}
+use mathlib.Core.List.{List, []}
+use mathlib.Core.Bool.{Bool, true, false, cond, and-eq-true-iff}
 use native.Mathlib.Omega.{arith}
-use lib.Dec.{leb, ltb, lit<, lit≤}
-use lib.Dec.{ltb, leb}
+use lib.Dec.{leb, lit<}
+use lib.Dec.{leb}
 use lib.IntN.{ℤ}
 use lib.ListN.{length, getD, take}
 use lib.Signed.{ltZ}
 use borrow.Author.Tests.{le-ltb, le-leb}
-use Rattle.words.specs.Lists.{ceil, filled, after}
+use Rattle.words.specs.Lists.{ceil, after}
 use Rattle.words.specs.Numbers.{numbered}
 use Rattle.words.proofs.ListLaws.{take-filled}
 use Rattle.bins.specs.Bins.{readings, borders, good-borders, rising}
 use Rattle.bins.proofs.BorderLaws.{borders-count, borders-rising}
 use Rattle.dictionary.specs.Dictionary.{unpack}
-use Rattle.column_index.specs.Index.{built, line-count, is-index-for}
+use Rattle.column_index.specs.Index.{built, line-count}
 use Rattle.run_search.specs.Search.{search-by}
 use Rattle.column_index.specs.Promise.{Builds, build-answer, build-number, Searches, search-answer, search-number, most-rows}
 use Rattle.column_index.specs.declared.BuildAnswer.{BuildAnswer}

@@ -1,12 +1,11 @@
 -- One piece after the other is the pieces joined. Assumes nothing.
-use Prim.Native.Nat.{ℕ, suc, _+_, _-_, _<_, _≤_}
+use Prim.Native.Nat.{ℕ, suc, _+_, _<_, _≤_}
 use mathlib.Core.Path.{_≡_, refl, sym, _∙_, ap}
-use mathlib.Core.List.{List, [], _∷_, _++_, map}
+use mathlib.Core.List.{List, [], _++_}
 use native.Mathlib.Omega.{arith}
 use native.Mathlib.Numerals.{add-one}
-use lib.ListN.{length, getD, set, drop, length-append, length-set, drop-of-length-le}
+use lib.ListN.{length, getD, set, drop, length-append, drop-of-length-le}
 use lib.Seq.{sets, drop-cons, length-sets}
-use Rattle.words.specs.Lists.{joined}
 use Rattle.words.proofs.ListLaws.{sets-append}
 use Rattle.range_text.specs.Puts.{Room, Puts}
 use Rattle.range_text.specs.Text.{row-line, row-lines}

@@ -1,17 +1,15 @@
 -- The whole text of an input: which of its forms it takes, that it fits, and what the lent bytes are afterwards. Assumes nothing.
 use Prim.Native.Nat.{ℕ, _+_, _<_, _≤_}
-use mathlib.Core.Path.{_≡_, refl, sym, _∙_, ap}
+use mathlib.Core.Path.{_≡_, refl, _∙_, ap}
 use mathlib.Core.List.{List}
-use mathlib.Core.Bool.{Bool, true, false, cond}
+use mathlib.Core.Bool.{Bool, true, false}
 use native.Mathlib.Omega.{arith}
 use lib.ListN.{length}
-use lib.IntN.{ℤ}
 use borrow.Author.Tests.{lt-ltb, le-ltb}
-use Rattle.words.specs.Lists.{filled}
 use Rattle.words.proofs.ListLaws.{sets-filled}
 use Rattle.range_text.specs.Puts.{Puts}
 use Rattle.range_input.specs.Input.{readable, low-of, high-of, column-of}
-use Rattle.range_text.specs.Text.{text-of, range-text, refused-line, Writes, most-bytes}
+use Rattle.range_text.specs.Text.{text-of, range-text, refused-line, Writes}
 use Rattle.range_input.proofs.InputLaws.{readable-few, column-length}
 use Rattle.range_text.proofs.LengthLaws.{refused-short}
 use Rattle.range_text.proofs.AnswerLaws.{text-short}

@@ -1,8 +1,8 @@
 // The program's text, piece by piece, into a lent space.
 ghost use mathlib.Core.Path.{_≡_};
-ghost use Prim.Native.Nat.{ℕ, _+_, _<_, _≤_};
+ghost use Prim.Native.Nat.{ℕ, _+_, _<_};
 ghost use mathlib.Core.List.{[], _∷_};
-ghost use lib.ListN.{length, getD};
+ghost use lib.ListN.{getD};
 ghost use Rattle.range_text.specs.Puts.{Room, Puts};
 ghost use Rattle.range_text.specs.Text.{decimal, labelled, three, row-line, row-lines, refused-line, found-text, rows-word, lines-word, borders-word, whole-word, compared-word, skipped-word};
 

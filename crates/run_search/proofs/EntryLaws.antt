@@ -1,5 +1,5 @@
 -- Going through an index entry by entry: what is left, what one entry adds, and the end. Assumes nothing.
-use Prim.Native.Nat.{ℕ, zero, suc, _+_, _-_, _*_, _<_, _≤_}
+use Prim.Native.Nat.{ℕ, suc, _+_, _<_, _≤_}
 use mathlib.Core.Path.{_≡_, refl, sym, _∙_, ap, ap₂, subst}
 use mathlib.Core.List.{List, [], _∷_, _++_}
 use mathlib.Core.Bool.{Bool, true, false, cond}
@@ -11,9 +11,9 @@ use lib.Seq.{drop-drop, drop-cons, length-take-le}
 use lib.IntN.{ℤ}
 use Rattle.bins.specs.Bins.{Kind, readings}
 use Rattle.dictionary.specs.Dictionary.{unpack, count-of, repeated}
-use Rattle.run_search.specs.Search.{Answer, nothing, with-line}
+use Rattle.run_search.specs.Search.{Answer, nothing}
 use Rattle.dictionary.specs.Entries.{lines-in, uses}
-use Rattle.run_search.specs.Runs.{Asked, fate-in, values, through, run-at, then, tally, plus, Readable, Within}
+use Rattle.run_search.specs.Runs.{Asked, through, run-at, then, tally, plus, Readable, Within}
 use Rattle.run_search.specs.declared.rows.Tally.{Tally}
 use Rattle.run_search.proofs.RunLaws.{through-append, through-run, plus-then, plus-nothing, unpack-entry, run-at-within, values-length}
 

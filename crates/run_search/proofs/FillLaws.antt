@@ -1,12 +1,12 @@
 -- Rows written one after the other into a lent space: what is still to come fixes every word. Assumes nothing.
-use Prim.Native.Nat.{ℕ, zero, suc, _+_, _-_, _*_, _<_, _≤_}
+use Prim.Native.Nat.{ℕ, suc, _+_, _-_, _*_, _<_, _≤_}
 use mathlib.Core.Path.{_≡_, refl, sym, _∙_, ap, ap₂, subst}
 use mathlib.Core.List.{List, [], _∷_, _++_}
 use mathlib.Core.Bool.{Bool, true, false, cond}
 use native.Mathlib.Omega.{arith}
 use native.Mathlib.Nat.{add-zero}
 use native.Mathlib.Numerals.{add-one}
-use lib.ListN.{length, take, drop, getD, set, length-append, length-take, length-drop, drop-of-length-le}
+use lib.ListN.{length, drop, getD, length-append, length-take, length-drop, drop-of-length-le}
 use lib.Seq.{drop-cons, sets, length-sets}
 use lib.IntN.{ℤ, pos}
 use Rattle.words.specs.Lists.{from}
@@ -16,11 +16,11 @@ use Rattle.bins.specs.Masks.{matches}
 use Rattle.bins.specs.declared.Fate.{Fate}
 use Rattle.bins.specs.declared.Fate.the-variants.{Skipped, Whole, Compared}
 use Rattle.dictionary.specs.Dictionary.{unpack, count-of}
-use Rattle.run_search.specs.Search.{Answer, scan, nothing}
+use Rattle.run_search.specs.Search.{Answer, scan}
 use Rattle.dictionary.specs.Entries.{lines-in, uses}
-use Rattle.run_search.specs.Runs.{Asked, fate-in, values, through, run-of, run-at, then, Readable}
+use Rattle.run_search.specs.Runs.{Asked, fate-in, values, through, run-of, run-at, Readable}
 use Rattle.run_search.proofs.RunLaws.{through-append}
-use Rattle.run_search.proofs.EntryLaws.{Going, going-starts, going-next, going-ends, Next, lines-turn, lines-end}
+use Rattle.run_search.proofs.EntryLaws.{Going, going-starts, going-next, going-ends, lines-turn, lines-end}
 
 -- rows and place, with `rest` still to be written, come from rows₀ and place at₀ with `all` to be written
 pub record Listing (rows₀ : List ℕ) (at₀ : ℕ) (all : List ℕ) (rows : List ℕ) (at : ℕ) (rest : List ℕ) : Type 0 where

@@ -8,13 +8,13 @@ use native.Mathlib.Nat.{add-zero, zero-add, mul-zero, mul-suc, mul-one}
 use native.Mathlib.Numerals.{add-one}
 use lib.Dec.{leb}
 use lib.ListN.{length, take, drop, getD, replicate, length-append, length-take, length-drop, drop-of-length-le}
-use lib.Seq.{take-add, drop-drop, drop-cons, length-take-le, take-all, take-length, take-nil}
+use lib.Seq.{take-add, drop-drop, drop-cons, take-all, take-length, take-nil}
 use lib.IntN.{ℤ, pos}
 use borrow.Author.Tests.{leb-true, leb-false}
 use Rattle.words.specs.Lists.{from, ceil, pieces}
 use Rattle.words.proofs.ListLaws.{pieces-cons, pieces-nil, ceil-below, ceil-reach, from-append, length-from}
-use Rattle.bins.specs.Bins.{Kind, readings, bins, lines}
-use Rattle.bins.specs.Masks.{matches, mask, inner, fate}
+use Rattle.bins.specs.Bins.{Kind, readings}
+use Rattle.bins.specs.Masks.{matches}
 use Rattle.bins.specs.declared.Fate.{Fate}
 use Rattle.bins.specs.declared.Fate.the-variants.{Skipped, Whole, Compared}
 use Rattle.dictionary.specs.Dictionary.{unpack, count-of, repeated}

@@ -1,5 +1,5 @@
 -- With imprints that lack no bit the search lists what a plain scan lists; so it does with the column's own. Assumes nothing.
-use Prim.Native.Nat.{ℕ, zero, suc, _+_, _<_, _≤_}
+use Prim.Native.Nat.{ℕ, suc, _+_, _<_}
 use mathlib.Core.Path.{_≡_, refl, sym, _∙_, ap}
 use mathlib.Core.List.{List, [], _∷_, _++_, map, List·Memᴰ, List·Memᴰ·head, List·Memᴰ·tail, Memᴰ·append-left, Memᴰ·append-right}
 use mathlib.Core.Bool.{Bool, true, false, cond}
@@ -11,7 +11,7 @@ use lib.Signed.{leZ}
 use Rattle.words.specs.Lists.{from, joined}
 use Rattle.words.specs.Bits.{share, outside}
 use Rattle.words.proofs.ListLaws.{joined-pieces}
-use Rattle.bins.specs.Bins.{Kind, bin, bins, lines, imprint, imprints, rising}
+use Rattle.bins.specs.Bins.{Kind, bins, lines, imprint, imprints, rising}
 use Rattle.bins.specs.Masks.{matches, mask, inner, fate}
 use Rattle.bins.specs.declared.Fate.{Fate}
 use Rattle.bins.specs.declared.Fate.the-variants.{Skipped, Whole, Compared}

@@ -1,7 +1,7 @@
 -- Document 01, "Range search": which rows are listed, and the three counts. Assumes nothing.
 use Prim.Native.Nat.{ℕ, suc, _+_}
 use mathlib.Core.List.{List, [], _∷_, _++_, map}
-use mathlib.Core.Bool.{Bool, cond}
+use mathlib.Core.Bool.{cond}
 use lib.ListN.{length}
 use lib.IntN.{ℤ}
 use Rattle.words.specs.Lists.{from}

@@ -1,13 +1,13 @@
 -- The bits of a word made of tests. Assumes nothing.
-use Prim.Native.Nat.{ℕ, zero, suc, _+_, _-_, _*_, _/_, _%_, _^_, _<_, _≤_}
+use Prim.Native.Nat.{ℕ, zero, suc, _+_, _-_, _*_, _/_, _%_, _^_, _<_}
 use mathlib.Core.Path.{_≡_, refl, sym, _∙_, ap}
-use mathlib.Core.Bool.{Bool, true, false, cond, not, _&&_, _||_, false≢true}
+use mathlib.Core.Bool.{Bool, true, false, cond, _||_, false≢true}
 use native.Mathlib.Omega.{arith}
-use native.Mathlib.Nat.{pow-suc, add-mul-div-right, add-mul-mod-self-right, mul-assoc, div-eq-of-lt, add-zero, zero-add}
+use native.Mathlib.Nat.{pow-suc, add-mul-div-right, add-mul-mod-self-right, div-eq-of-lt, add-zero}
 use lib.Pow.{pow-pos, pow-add}
-use lib.Dec.{leb, ltb, eqb}
+use lib.Dec.{eqb}
 use lib.Arith.{lt-of-le-ne, digits-div}
-use borrow.Author.Tests.{eqb-true, eqb-false, ne-eqb, eq-eqb}
+use borrow.Author.Tests.{eqb-true, eqb-false}
 use Rattle.words.specs.Bits.{word, odd, bit, some-below}
 
 pub word-lt : (n : ℕ) (f : ℕ → Bool) → word n f < 2 ^ n

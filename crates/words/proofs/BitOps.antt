@@ -1,7 +1,7 @@
 -- The machine's & and | on the words of the definitions. Assumes nothing.
-use Prim.Native.Nat.{ℕ, zero, suc, _+_, _-_, _*_, _/_, _%_, _^_, _<_, _≤_}
+use Prim.Native.Nat.{ℕ, zero, suc, _+_, _-_, _/_, _%_, _^_, _<_, _≤_}
 use mathlib.Core.Path.{_≡_, refl, sym, _∙_, ap, ap₂}
-use mathlib.Core.List.{List, [], _∷_, _++_}
+use mathlib.Core.List.{[]}
 use mathlib.Core.Bool.{Bool, true, false, cond, not, _&&_, _||_, false≢true, and-false}
 use native.Mathlib.Omega.{arith}
 use native.Mathlib.Nat.{pow-suc, pow-succ', div-div-eq-div-mul, zero-div, div-one, mod-lt, div-eq-of-lt, zero-add, add-zero}
@@ -9,10 +9,9 @@ use lib.Pow.{pow-pos, pow-lt, pow-mono}
 use lib.Bits.{bitAnd, bitOr, and-shr, or-shr, and-mod, or-mod, and-le-l, or-lt}
 use lib.Dec.{leb, ltb, eqb}
 use lib.Arith.{lt-of-le-ne}
-use borrow.Author.Tests.{eqb-true, eqb-false, ne-eqb, eq-eqb, ltb-true, ltb-false, leb-true, leb-false, le-leb, lt-leb}
+use borrow.Author.Tests.{eqb-true, eqb-false, ltb-true, ltb-false, leb-true, leb-false, le-leb, lt-leb}
 use Rattle.words.specs.Bits.{word, odd, bit, some-below, share, outside}
-use Rattle.words.specs.Lists.{has}
-use Rattle.words.proofs.BitLaws.{bit-word, word-lt, some-yes, some-no, top, lower}
+use Rattle.words.proofs.BitLaws.{bit-word, word-lt, some-no, top, lower}
 
 -- ---- two words with the same bits are the same
 

@@ -1,5 +1,5 @@
 -- Laws of lists in pieces. Assumes nothing.
-use Prim.Native.Nat.{ℕ, zero, suc, _+_, _-_, _*_, _/_, _%_, _^_, _<_, _≤_}
+use Prim.Native.Nat.{ℕ, zero, suc, _+_, _-_, _*_, _/_, _<_, _≤_}
 use mathlib.Core.Path.{_≡_, refl, sym, _∙_, ap, ap₂}
 use mathlib.Core.List.{List, [], _∷_, _++_, map, append-nil, append-assoc}
 use mathlib.Core.Bool.{Bool, true, false, _&&_, and-eq-true-iff, false≢true}
@@ -9,7 +9,7 @@ use native.Mathlib.Nat.{div-eq-of-lt, add-div-left, mul-zero, mul-suc, suc-mul, 
 use native.Mathlib.Omega.{arith}
 use native.Mathlib.Numerals.{add-one}
 use lib.ListN.{length, take, drop, length-append, take-append-drop, length-drop, length-map, set, drop-of-length-le}
-use lib.Seq.{take-all, take-at, drop-append-add, drop-at, length-take-le, take-append-seam, sets, sets-eq}
+use lib.Seq.{take-all, take-at, drop-append-add, length-take-le, take-append-seam, sets, sets-eq}
 use Rattle.words.specs.Lists.{from, ceil, pieces, joined, every, same, filled, after}
 
 pub ceil-zero : (k : ℕ) → 0 < k → ceil 0 k ≡ 0

@@ -1,12 +1,11 @@
 -- The order of ℤ, as tests. Assumes nothing.
-use Prim.Native.Nat.{ℕ, zero, suc, _+_, _<_, _≤_}
-use mathlib.Core.Path.{_≡_, refl, sym, _∙_, ap}
-use mathlib.Core.Bool.{Bool, true, false, not, false≢true}
+use Prim.Native.Nat.{zero, suc}
+use mathlib.Core.Path.{_≡_, refl, sym}
+use mathlib.Core.Bool.{Bool, true, false, false≢true}
 use native.Mathlib.Omega.{arith}
 use lib.IntN.{ℤ, pos, negsuc, predℤ}
 use lib.Signed.{leZ, ltZ}
-use lib.Dec.{leb, ltb}
-use borrow.Author.Tests.{leb-true, le-leb, ltb-true, lt-ltb, leb-false, ltb-false}
+use borrow.Author.Tests.{leb-true, le-leb, ltb-true, lt-ltb, leb-false}
 
 pub leZ-refl : (a : ℤ) → leZ a a ≡ true
 leZ-refl (pos a) = le-leb a a (omega arith)

@@ -1,21 +1,17 @@
 -- `column_index::checked` meets its contract. Assumes nothing.
-use Prim.Native.Nat.{ℕ, suc, _≤_, _<_, _+_}
-use mathlib.Core.Path.{_≡_, refl, sym, ap, ap₂, _∙_}
-use mathlib.Core.Bool.{Bool, true, false}
+use Prim.Native.Nat.{ℕ, _≤_}
+use mathlib.Core.Path.{_≡_, sym, ap₂, _∙_}
+use mathlib.Core.Bool.{true, false}
 use native.Mathlib.Omega.{arith}
 use native.Mathlib.Numerals.{add-one}
 use lib.ListN.{length}
-use Rattle.bins.specs.Bins.{readings, bins, good-borders}
+use Rattle.bins.specs.Bins.{readings, good-borders}
 use Rattle.dictionary.specs.Dictionary.{accepted, largest}
 use Rattle.column_index.specs.Index.{is-index-for}
 use Rattle.column_index.proofs.CallLaws.{good-few, checked-long, checked-rest, checked-borders}
 use borrow.Author.Needs.{needs}
 use Rattle.column_index.proofs.checked.Statement.{statement}
 use Rattle.column_index.proofs.checked.Tie as tie
-use Rattle.column_index.proofs.checked.Reads as reads
-use Rattle.column_index.proofs.checked.Lts as lts
-use Rattle.bins.proofs.good_borders.Reads as good-borders-reads
-use Rattle.dictionary.proofs.accepting.accepted.Reads as accepted-reads
 
 returns : tie.Need-returns
 returns c = let a = c .before .before .before .args in checked-long (a .column .now) (a .borders .now) (a .imprints .now) (a .dictionary .now) (c .if1 .taken)

@@ -1,26 +1,20 @@
 -- `column_index::find` meets its contract. Assumes nothing.
-use Prim.Native.Nat.{ℕ, _≤_, _<_, _+_}
-use mathlib.Core.Path.{_≡_, refl, sym, ap, _∙_}
-use mathlib.Core.List.{List}
+use Prim.Native.Nat.{_≤_}
+use mathlib.Core.Path.{_≡_, refl, ap, _∙_}
 use native.Mathlib.Omega.{arith}
 use lib.ListN.{length}
 use Rattle.words.proofs.ListLaws.{sets-filled}
 use Rattle.bins.specs.Bins.{readings}
 use Rattle.dictionary.specs.Dictionary.{unpack}
 use Rattle.run_search.specs.Search.{Answer}
-use Rattle.run_search.specs.Runs.{asked-of, through, tally, plus}
+use Rattle.run_search.specs.Runs.{asked-of, through, tally}
 use Rattle.run_search.specs.declared.rows.Tally.{Tally}
-use Rattle.column_index.specs.declared.SearchAnswer.{SearchAnswer}
 use Rattle.column_index.specs.declared.SearchAnswer.the-variants as searching
 use Rattle.run_search.proofs.RunLaws.{plus-none}
 use Rattle.column_index.proofs.CallLaws.{room-short, room-done}
 use borrow.Author.Needs.{needs}
 use Rattle.column_index.proofs.find.Statement.{statement}
 use Rattle.column_index.proofs.find.Tie as tie
-use Rattle.column_index.proofs.find.Reads as reads
-use Rattle.column_index.proofs.find.Lts as lts
-use Rattle.run_search.proofs.listed.fill_all.Reads as fill-all-reads
-use Rattle.run_search.proofs.rows.count_all.Reads as count-all-reads
 
 count-all-requires : tie.Need-count-all-requires
 count-all-requires c κs = search needs

@@ -1,11 +1,7 @@
 -- `column_index::search` meets its contract: each answer by the checks that led to it. Assumes nothing.
-use Prim.Native.Nat.{ℕ, _≤_, _<_, _+_}
-use mathlib.Core.Path.{_≡_, refl, sym, ap, ap₂, _∙_}
-use mathlib.Core.List.{List}
-use mathlib.Core.Bool.{Bool, true, false}
-use native.Mathlib.Omega.{arith}
+use Prim.Native.Nat.{_≤_}
+use mathlib.Core.Path.{_≡_, refl, sym, ap₂, _∙_}
 use lib.ListN.{length}
-use lib.IntN.{ℤ}
 use lib.Signed.{ltZ}
 use mir.Syntax.{w32}
 use mir.Val.{toZ, ofZ}
@@ -13,19 +9,12 @@ use mir.ValLaws.{toZ-ofZ}
 use Rattle.bins.specs.Bins.{readings}
 use Rattle.bins.specs.Masks.{mask, inner}
 use Rattle.column_index.specs.Promise.{checked-answer}
-use Rattle.column_index.specs.declared.IndexCheck.{IndexCheck}
 use Rattle.column_index.specs.declared.IndexCheck.the-variants as checking
 use Rattle.column_index.specs.declared.SearchAnswer.the-variants as searching
 use Rattle.column_index.proofs.CallLaws.{good-few, checked-passed, answered, answered-order, answered-found, passed-lines}
 use borrow.Author.Needs.{needs}
 use Rattle.column_index.proofs.search.Statement.{statement}
 use Rattle.column_index.proofs.search.Tie as tie
-use Rattle.column_index.proofs.search.Reads as reads
-use Rattle.column_index.proofs.search.Lts as lts
-use Rattle.bins.proofs.inner_mask.Reads as inner-mask-reads
-use Rattle.bins.proofs.range_mask.Reads as range-mask-reads
-use Rattle.column_index.proofs.checked.Reads as checked-reads
-use Rattle.column_index.proofs.find.Reads as find-reads
 
 checked-requires : tie.Need-checked-requires
 checked-requires c κs = search needs

@@ -7,9 +7,6 @@ use Rattle.guarded_search.specs.declared.GuardAnswer.the-variants as gua
 use borrow.Author.Needs.{needs}
 use Rattle.guarded_search.proofs.denied.Statement.{statement}
 use Rattle.guarded_search.proofs.denied.Tie as tie
-use Rattle.guarded_search.proofs.denied.Reads as reads
-use Rattle.guarded_search.proofs.denied.Lts as lts
-use Rattle.column_index.proofs.checked.Reads as checked-reads
 
 checked-requires : tie.Need-checked-requires
 checked-requires c κs = search needs

@@ -12,9 +12,6 @@ use Rattle.guarded_search.specs.declared.Gap.{Gap}
 use Rattle.guarded_search.proofs.NarrowLaws.{narrow-turn, narrow-end}
 use Rattle.guarded_search.proofs.gap_around.Statement.{statement}
 use Rattle.guarded_search.proofs.gap_around.Tie as tie
-use Rattle.guarded_search.proofs.gap_around.Reads as reads
-use Rattle.guarded_search.proofs.gap_around.Lts as lts
-use Rattle.guarded_search.proofs.narrowed.Reads as narrowed-reads
 
 abbrev Inv-loop : tie.InvT-loop
 Inv-loop column span lo hi gap₀ i₀ gap i = (i ≤ length column) × (narrow-all span lo hi gap (drop i column) ≡ narrow-all span lo hi (widest span) column)

@@ -7,11 +7,6 @@ use Rattle.guarded_search.proofs.CallLaws.{looks-of, guards-no-filter, 
 use borrow.Author.Needs.{needs}
 use Rattle.guarded_search.proofs.guarded_search.Statement.{statement}
 use Rattle.guarded_search.proofs.guarded_search.Tie as tie
-use Rattle.guarded_search.proofs.guarded_search.Reads as reads
-use Rattle.guarded_search.proofs.guarded_search.Lts as lts
-use Rattle.guarded_search.proofs.denied.Reads as denied-reads
-use Rattle.guarded_search.proofs.look.Reads as look-reads
-use Rattle.range_filter.proofs.ask.Reads as ask-reads
 
 ask-requires : tie.Need-ask-requires
 ask-requires c κs = search needs

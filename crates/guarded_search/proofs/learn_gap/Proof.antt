@@ -9,13 +9,6 @@ use Rattle.guarded_search.proofs.CallLaws.{read-never, read-few, missed
 use borrow.Author.Needs.{needs}
 use Rattle.guarded_search.proofs.learn_gap.Statement.{statement}
 use Rattle.guarded_search.proofs.learn_gap.Tie as tie
-use Rattle.guarded_search.proofs.learn_gap.Reads as reads
-use Rattle.guarded_search.proofs.learn_gap.Lts as lts
-use Rattle.guarded_search.proofs.gap_around.Reads as gap-around-reads
-use Rattle.guarded_search.proofs.outcome_of.Reads as outcome-of-reads
-use Rattle.guarded_search.proofs.span_of.Reads as span-of-reads
-use Rattle.range_filter.proofs.learn.Reads as learn-reads
-use Rattle.range_filter.proofs.read.Reads as read-reads
 
 read-requires : tie.Need-read-requires
 read-requires c κs = search needs

@@ -1,5 +1,5 @@
 -- `guarded_search::look` meets its contract, answer by answer of the range search. Assumes nothing.
-use mathlib.Core.Path.{_≡_, sym, ap, subst₂, _∙_}
+use mathlib.Core.Path.{sym, ap, subst₂, _∙_}
 use native.Mathlib.Omega.{arith}
 use lib.IntN.{ℤ, pos}
 use mir.Syntax.{w32}
@@ -12,11 +12,6 @@ use Rattle.guarded_search.proofs.CallLaws.{looks-small, answer-of, soug
 use borrow.Author.Needs.{needs}
 use Rattle.guarded_search.proofs.look.Statement.{statement}
 use Rattle.guarded_search.proofs.look.Tie as tie
-use Rattle.guarded_search.proofs.look.Reads as reads
-use Rattle.guarded_search.proofs.look.Lts as lts
-use Rattle.column_index.proofs.search.Reads as search-reads
-use Rattle.guarded_search.proofs.learn_gap.Reads as learn-gap-reads
-use Rattle.guarded_search.proofs.value_of.Reads as value-of-reads
 
 value-of-requires : tie.Need-value-of-requires
 value-of-requires c κs = looks-small (c .before .before .before .before .pre) .0

@@ -9,9 +9,6 @@ use Rattle.guarded_search.proofs.NarrowLaws.{narrow-negative, natural-f
 use borrow.Author.Needs.{needs}
 use Rattle.guarded_search.proofs.narrowed.Statement.{statement}
 use Rattle.guarded_search.proofs.narrowed.Tie as tie
-use Rattle.guarded_search.proofs.narrowed.Reads as reads
-use Rattle.guarded_search.proofs.narrowed.Lts as lts
-use Rattle.guarded_search.proofs.narrowed_by.Reads as narrowed-by-reads
 
 returns : tie.Need-returns
 returns c = let s = c .before in narrow-negative (s .args .span) (s .args .lo) (s .args .hi) (s .args .gap) (s .args .v) (sym (ap (λ (z : ℤ). ltZ z (pos 0)) (toZ-ofZ w32 (s .args .v) (s .fits .v))) ∙ c .if1 .taken)

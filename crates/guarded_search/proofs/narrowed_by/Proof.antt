@@ -3,10 +3,6 @@ use Rattle.guarded_search.proofs.NarrowLaws.{narrow-far, narrow-low, na
 use borrow.Author.Needs.{needs}
 use Rattle.guarded_search.proofs.narrowed_by.Statement.{statement}
 use Rattle.guarded_search.proofs.narrowed_by.Tie as tie
-use Rattle.guarded_search.proofs.narrowed_by.Reads as reads
-use Rattle.guarded_search.proofs.narrowed_by.Lts as lts
-use Rattle.guarded_search.proofs.greater.Reads as greater-reads
-use Rattle.guarded_search.proofs.lesser.Reads as lesser-reads
 
 add-greater : tie.Need-add-greater
 add-greater c = search needs

@@ -4,8 +4,6 @@ use native.Mathlib.Omega.{arith}
 use borrow.Author.Needs.{needs}
 use Rattle.guarded_search.proofs.span_of.Statement.{statement}
 use Rattle.guarded_search.proofs.span_of.Tie as tie
-use Rattle.guarded_search.proofs.span_of.Reads as reads
-use Rattle.guarded_search.proofs.span_of.Lts as lts
 
 shl-result : tie.Need-shl-result
 shl-result c = search needs

@@ -4,8 +4,6 @@ use mir.ValLaws.{toZ-pos}
 use borrow.Author.Needs.{needs}
 use Rattle.guarded_search.proofs.value_of.Statement.{statement}
 use Rattle.guarded_search.proofs.value_of.Tie as tie
-use Rattle.guarded_search.proofs.value_of.Reads as reads
-use Rattle.guarded_search.proofs.value_of.Lts as lts
 
 cast-result : tie.Need-cast-result
 cast-result c = search needs

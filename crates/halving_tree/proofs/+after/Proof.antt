@@ -2,11 +2,11 @@ use Rattle.halving_tree.specs.Tree.{treeOf, shift, paint}
 use Rattle.halving_tree.specs.Form.{splitsOf, joinForm, formOf}
 use Rattle.halving_tree.proofs.PaintLaws.{paint-none}
 use Rattle.halving_tree.proofs.AfterLaws as laws
-use mathlib.Core.Path.{_≡_, ap, ap₂, sym, _∙_}
+use mathlib.Core.Path.{ap, ap₂, sym, _∙_}
 use denote.Ref.{now}
 use native.Mathlib.Omega.{arith}
 use borrow.Author.Needs.{needs}
-use Prim.Native.Nat.{ℕ, _+_, _-_, _/_, _^_, _<_}
+use Prim.Native.Nat.{ℕ, _-_, _^_, _<_}
 use borrow.Fn.Kinds.{In}
 use borrow.Fn.PlainCycle.{Measures, is, falls, and}
 use Rattle.halving_tree.proofs.after.Reads as after

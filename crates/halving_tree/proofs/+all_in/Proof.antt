@@ -1,11 +1,11 @@
 use borrow.Author.Needs.{needs}
 use denote.Ref.{now}
 use native.Mathlib.Omega.{arith}
-use mathlib.Core.Path.{_≡_, subst}
-use Rattle.halving_tree.specs.Place.{At, Says, AllIn}
-use Rattle.halving_tree.specs.Tree.{treeOf, shift}
+use mathlib.Core.Path.{subst}
+use Rattle.halving_tree.specs.Place.{Says, AllIn}
+use Rattle.halving_tree.specs.Tree.{shift}
 use Rattle.halving_tree.proofs.AskLaws as laws
-use Prim.Native.Nat.{ℕ, _+_, _-_, _/_, _^_, _<_}
+use Prim.Native.Nat.{ℕ, _-_, _/_, _^_, _<_}
 use borrow.Fn.Kinds.{In}
 use borrow.Fn.PlainCycle.{Measures, is, falls, and}
 use Rattle.halving_tree.proofs.all_in.Reads as all-in

@@ -3,12 +3,12 @@ use Rattle.halving_tree.specs.Tree.{treeOf, shift}
 use Rattle.halving_tree.proofs.ForgetLaws as laws
 use Rattle.halving_tree.proofs.AskLaws as ask
 use Rattle.halving_tree.proofs.Laws.{at-in}
-use mathlib.Core.Bool.{Bool, true, false}
+use mathlib.Core.Bool.{true, false}
 use mathlib.Core.Path.{_≡_, ap, sym, subst, _∙_}
 use denote.Ref.{now}
 use native.Mathlib.Omega.{arith}
 use borrow.Author.Needs.{needs}
-use Prim.Native.Nat.{ℕ, _+_, _-_, _/_, _^_, _<_, _≤_}
+use Prim.Native.Nat.{ℕ, _+_, _-_, _/_, _^_, _<_}
 use borrow.Fn.Kinds.{In}
 use borrow.Fn.PlainCycle.{Measures, is, falls, and}
 use Rattle.halving_tree.proofs.first_pair.Reads as first-pair

@@ -1,12 +1,10 @@
 use Rattle.halving_tree.proofs.LeafLaws as laws
 use Rattle.halving_tree.proofs.AskLaws as ask
-use Rattle.halving_tree.specs.Tree.{treeOf, shift}
-use mathlib.Core.Bool.{Bool, true, false}
-use mathlib.Core.Path.{_≡_, ap, sym, subst, _∙_}
+use Rattle.halving_tree.specs.Tree.{shift}
+use mathlib.Core.Bool.{true, false}
 use denote.Ref.{now}
 use native.Mathlib.Omega.{arith}
-use borrow.Author.Needs.{needs}
-use Prim.Native.Nat.{ℕ, _+_, _-_, _/_, _^_, _<_, _≤_}
+use Prim.Native.Nat.{ℕ, _-_, _/_, _^_, _<_}
 use borrow.Fn.Kinds.{In}
 use borrow.Fn.PlainCycle.{Measures, is, falls, and}
 use Rattle.halving_tree.proofs.leaf_of.Reads as leaf-of

@@ -1,11 +1,10 @@
-use lib.Seq.{length-sets}
 use lib.ListN.{length, set, length-set}
 use Rattle.halving_tree.specs.Tree.{treeOf, shift, paint}
 use Rattle.halving_tree.specs.Form.{kindOf, formOf, Fill}
 use Rattle.halving_tree.proofs.PutLaws as laws
 use Rattle.halving_tree.proofs.AfterLaws as alaws
 use mathlib.Core.Bool.{Bool}
-use mathlib.Core.Path.{_≡_, ap, ap₂, sym, subst, _∙_}
+use mathlib.Core.Path.{ap, sym, subst, _∙_}
 use denote.Ref.{now}
 use native.Mathlib.Omega.{arith}
 use borrow.Author.Needs.{needs}

@@ -2,7 +2,7 @@ use borrow.Author.Needs.{needs}
 use denote.Ref.{now}
 use native.Mathlib.Omega.{arith}
 use Rattle.halving_tree.proofs.SeenLaws as laws
-use mathlib.Core.Path.{_≡_, subst}
+use mathlib.Core.Path.{subst}
 use mathlib.Core.Logic.{⊎-elim}
 use mathlib.Core.Logic.{⊎-elim}
 use Rattle.halving_tree.specs.Seen.{Saw}

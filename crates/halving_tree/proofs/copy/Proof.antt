@@ -1,15 +1,13 @@
 use lib.Seq.{sets}
-use lib.ListN.{length, take, drop, length-set}
-use Prim.Native.Nat.{ℕ, _+_, _-_, _≤_}
+use lib.ListN.{length, take, drop}
+use Prim.Native.Nat.{ℕ, _-_, _≤_}
 use Rattle.halving_tree.proofs.ListLaws as laws
-use mathlib.Core.Path.{_≡_, refl, ap, sym, _∙_}
+use mathlib.Core.Path.{_≡_, ap, _∙_}
 use denote.Ref.{now}
 use native.Mathlib.Omega.{arith}
 use borrow.Author.Needs.{needs}
 use Rattle.halving_tree.proofs.copy.Statement.{statement}
 use Rattle.halving_tree.proofs.copy.Tie as tie
-use Rattle.halving_tree.proofs.copy.Reads as reads
-use Rattle.halving_tree.proofs.copy.Lts as lts
 
 abbrev Inv-loop : tie.InvT-loop
 Inv-loop w p n out₀ q i₀ out i = (i ≤ n) × (length out ≡ length out₀) × (out ≡ sets out₀ q (take i (drop p w)))

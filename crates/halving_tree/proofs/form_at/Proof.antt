@@ -7,8 +7,6 @@ use borrow.Author.Needs.{needs}
 use borrow.Author.Needs.{needs}
 use Rattle.halving_tree.proofs.form_at.Statement.{statement}
 use Rattle.halving_tree.proofs.form_at.Tie as tie
-use Rattle.halving_tree.proofs.form_at.Reads as reads
-use Rattle.halving_tree.proofs.form_at.Lts as lts
 
 mul-v : tie.Need-mul-v
 mul-v c =

@@ -1,5 +1,4 @@
 use Rattle.halving_tree.specs.Tree.{treeOf}
-use mathlib.Core.Bool.{true, false}
 use Rattle.halving_tree.proofs.Laws as base
 use Rattle.halving_tree.proofs.FormLaws as laws
 use denote.Ref.{now}
@@ -8,8 +7,6 @@ use borrow.Author.Needs.{needs}
 use borrow.Author.Needs.{needs}
 use Rattle.halving_tree.proofs.halves.Statement.{statement}
 use Rattle.halving_tree.proofs.halves.Tie as tie
-use Rattle.halving_tree.proofs.halves.Reads as reads
-use Rattle.halving_tree.proofs.halves.Lts as lts
 
 mul-v : tie.Need-mul-v
 mul-v c =

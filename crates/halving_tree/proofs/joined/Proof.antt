@@ -1,12 +1,10 @@
 use Rattle.halving_tree.specs.Form.{splitsOf, joinForm}
-use mathlib.Core.Path.{_≡_, ap, sym, ap₂}
+use mathlib.Core.Path.{ap, sym, ap₂}
 use native.Mathlib.Omega.{arith}
 use borrow.Author.Needs.{needs}
 use borrow.Author.Needs.{needs}
 use Rattle.halving_tree.proofs.joined.Statement.{statement}
 use Rattle.halving_tree.proofs.joined.Tie as tie
-use Rattle.halving_tree.proofs.joined.Reads as reads
-use Rattle.halving_tree.proofs.joined.Lts as lts
 
 enum-told : tie.Need-enum-told
 enum-told c = search needs

@@ -1,11 +1,9 @@
 use Rattle.halving_tree.specs.Found.{orElse}
-use mathlib.Core.Path.{_≡_, ap, sym, subst}
+use mathlib.Core.Path.{ap, sym}
 use borrow.Author.Needs.{needs}
 use borrow.Author.Needs.{needs}
 use Rattle.halving_tree.proofs.or_else.Statement.{statement}
 use Rattle.halving_tree.proofs.or_else.Tie as tie
-use Rattle.halving_tree.proofs.or_else.Reads as reads
-use Rattle.halving_tree.proofs.or_else.Lts as lts
 
 enum-told : tie.Need-enum-told
 enum-told c = search needs

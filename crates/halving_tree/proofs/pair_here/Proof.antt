@@ -4,8 +4,6 @@ use borrow.Author.Needs.{needs}
 use borrow.Author.Needs.{needs}
 use Rattle.halving_tree.proofs.pair_here.Statement.{statement}
 use Rattle.halving_tree.proofs.pair_here.Tie as tie
-use Rattle.halving_tree.proofs.pair_here.Reads as reads
-use Rattle.halving_tree.proofs.pair_here.Lts as lts
 
 returns : tie.Need-returns
 returns c =

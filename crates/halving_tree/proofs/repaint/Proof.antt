@@ -1,5 +1,5 @@
 -- `repaint` meets its contract. Assumes nothing.
-use mathlib.Core.Path.{_≡_, refl}
+use mathlib.Core.Path.{refl}
 use denote.Ref.{now}
 use Rattle.halving_tree.proofs.RepaintLaws as laws
 use borrow.Author.Needs.{needs}

@@ -1,12 +1,10 @@
 use Rattle.halving_tree.specs.Found.{moved, Below}
 use native.Mathlib.Omega.{arith}
-use mathlib.Core.Path.{_≡_, ap, sym, subst}
+use mathlib.Core.Path.{ap, sym, subst}
 use borrow.Author.Needs.{needs}
 use borrow.Author.Needs.{needs}
 use Rattle.halving_tree.proofs.shifted.Statement.{statement}
 use Rattle.halving_tree.proofs.shifted.Tie as tie
-use Rattle.halving_tree.proofs.shifted.Reads as reads
-use Rattle.halving_tree.proofs.shifted.Lts as lts
 
 enum-told : tie.Need-enum-told
 enum-told c = search needs

@@ -1,14 +1,12 @@
 -- `index_examples::ramp` is safe and ends. Assumes nothing.
-use Prim.Native.Nat.{ℕ, _≤_, _<_, _-_, _+_, _%_}
-use mathlib.Core.Path.{_≡_, refl, sym, _∙_}
+use Prim.Native.Nat.{_≤_, _-_}
+use mathlib.Core.Path.{_≡_}
 use native.Mathlib.Omega.{arith}
 use native.Mathlib.Nat.{mod-lt}
 use lib.ListN.{length, length-set}
 use borrow.Author.Needs.{needs}
 use Rattle.index_examples.proofs.ramp.Statement.{statement}
 use Rattle.index_examples.proofs.ramp.Tie as tie
-use Rattle.index_examples.proofs.ramp.Reads as reads
-use Rattle.index_examples.proofs.ramp.Lts as lts
 
 abbrev Inv-loop : tie.InvT-loop
 Inv-loop column₀ different i₀ column i = (1 ≤ different) × (different ≤ 100000) × (length column ≡ length column₀)

@@ -1,7 +1,6 @@
 -- `arrival` meets its contract: each return by the tests that led there. Assumes nothing.
-use mathlib.Core.Path.{_≡_, refl, subst}
+use mathlib.Core.Path.{refl, subst}
 use mathlib.Core.Bool.{false}
-use Prim.Native.Nat.{ℕ, _≤_}
 use denote.Ref.{now}
 use native.Mathlib.Omega.{arith}
 use Rattle.range_filter.specs.Calls.{arrived}

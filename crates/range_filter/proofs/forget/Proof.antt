@@ -1,7 +1,6 @@
 -- `forget` meets its contract: each return by the tests that led there. Assumes nothing.
-use mathlib.Core.Path.{_≡_, refl, ap, sym, subst, _∙_}
-use mathlib.Core.Bool.{Bool, true, false, cond}
-use Prim.Native.Nat.{ℕ, _≤_}
+use mathlib.Core.Path.{refl, ap, sym, subst, _∙_}
+use mathlib.Core.Bool.{Bool, false, cond}
 use denote.Ref.{now}
 use native.Mathlib.Omega.{arith}
 use lib.Pow.{pow-pos}

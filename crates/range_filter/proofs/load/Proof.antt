@@ -2,10 +2,8 @@ use Rattle.range_filter.proofs.LoadLaws as laws
 use Rattle.halving_tree.specs.Seen.{Saw}
 use lib.ListN.{getD}
 use Rattle.range_filter.proofs.LayoutLaws.{levels-word, room-word, hand-word}
-use Prim.Native.Nat.{ℕ, _+_, _-_, _^_, _<_, _≤_}
-use mathlib.Core.Path.{_≡_, ap, sym, subst, _∙_}
+use mathlib.Core.Path.{subst}
 use denote.Ref.{now}
-use native.Mathlib.Omega.{arith}
 use borrow.Author.Needs.{needs}
 use borrow.Author.Needs.{needs}
 use Rattle.range_filter.proofs.load.Statement.{statement}

@@ -4,9 +4,6 @@ use Rattle.range_input.specs.Input.{bits-at}
 use borrow.Author.Needs.{needs}
 use Rattle.range_input.proofs.bits_at.Statement.{statement}
 use Rattle.range_input.proofs.bits_at.Tie as tie
-use Rattle.range_input.proofs.bits_at.Reads as reads
-use Rattle.range_input.proofs.bits_at.Lts as lts
-use Rattle.range_input.proofs.wide.Reads as wide-reads
 
 mul-at : tie.Need-mul-at
 mul-at c = search needs

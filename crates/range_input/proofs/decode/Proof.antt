@@ -1,5 +1,5 @@
 -- `range_input::decode` meets its contract: each answer by the tests that led to it. Assumes nothing.
-use mathlib.Core.Path.{_≡_, refl, _∙_}
+use mathlib.Core.Path.{refl, _∙_}
 use native.Mathlib.Omega.{arith}
 use mir.Syntax.{w32}
 use mir.ValLaws.{toZ-ofZ}
@@ -7,10 +7,6 @@ use Rattle.range_input.proofs.InputLaws.{too-short, no-fours, too-many,
 use borrow.Author.Needs.{needs}
 use Rattle.range_input.proofs.decode.Statement.{statement}
 use Rattle.range_input.proofs.decode.Tie as tie
-use Rattle.range_input.proofs.decode.Reads as reads
-use Rattle.range_input.proofs.decode.Lts as lts
-use Rattle.range_input.proofs.fill.Reads as fill-reads
-use Rattle.range_input.proofs.value_at.Reads as value-at-reads
 
 returns : tie.Need-returns
 returns c = let a = c .before .before .args in not-read (a .input .now) (a .column .now) (too-short (a .input .now) (c .if1 .taken))

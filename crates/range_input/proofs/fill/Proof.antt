@@ -1,5 +1,5 @@
 -- `range_input::fill` meets its contract: the stores still to come fix every word. Assumes nothing.
-use Prim.Native.Nat.{_≤_, _<_, _+_, _-_}
+use Prim.Native.Nat.{_≤_, _+_, _-_}
 use mathlib.Core.Path.{_≡_, refl, _∙_}
 use mathlib.Core.List.{map}
 use native.Mathlib.Omega.{arith}
@@ -13,9 +13,6 @@ use Rattle.range_input.specs.Input.{value-at, column-of}
 use Rattle.range_input.proofs.InputLaws.{fill-starts, fill-next, fill-ends}
 use Rattle.range_input.proofs.fill.Statement.{statement}
 use Rattle.range_input.proofs.fill.Tie as tie
-use Rattle.range_input.proofs.fill.Reads as reads
-use Rattle.range_input.proofs.fill.Lts as lts
-use Rattle.range_input.proofs.value_at.Reads as value-at-reads
 
 abbrev Inv-loop : tie.InvT-loop
 Inv-loop input rows column₀ i₀ column i = (i ≤ rows) × (length column ≡ length column₀) × (sets column i (map (value-at input) (from (i + 2) (rows - i))) ≡ sets column₀ 0 (column-of input))

@@ -1,11 +1,8 @@
 -- `range_input::signed` meets its contract. Assumes nothing.
-use native.Mathlib.Omega.{arith}
 use Rattle.range_input.proofs.InputLaws.{signed-pos, signed-neg}
 use borrow.Author.Needs.{needs}
 use Rattle.range_input.proofs.signed.Statement.{statement}
 use Rattle.range_input.proofs.signed.Tie as tie
-use Rattle.range_input.proofs.signed.Reads as reads
-use Rattle.range_input.proofs.signed.Lts as lts
 
 cast-result : tie.Need-cast-result
 cast-result c = search needs

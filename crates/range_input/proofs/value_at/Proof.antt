@@ -6,10 +6,6 @@ use Rattle.range_input.specs.Input.{signed}
 use borrow.Author.Needs.{needs}
 use Rattle.range_input.proofs.value_at.Statement.{statement}
 use Rattle.range_input.proofs.value_at.Tie as tie
-use Rattle.range_input.proofs.value_at.Reads as reads
-use Rattle.range_input.proofs.value_at.Lts as lts
-use Rattle.range_input.proofs.bits_at.Reads as bits-at-reads
-use Rattle.range_input.proofs.signed.Reads as signed-reads
 
 bits-at-requires : tie.Need-bits-at-requires
 bits-at-requires c κs = search needs

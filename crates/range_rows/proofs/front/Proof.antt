@@ -4,8 +4,6 @@ use lib.Seq.{length-take-le}
 use borrow.Author.Needs.{needs}
 use Rattle.range_rows.proofs.front.Statement.{statement}
 use Rattle.range_rows.proofs.front.Tie as tie
-use Rattle.range_rows.proofs.front.Reads as reads
-use Rattle.range_rows.proofs.front.Lts as lts
 
 slice-aggregate-result : tie.Need-slice-aggregate-result
 slice-aggregate-result c = sym (length-take-le _ _ (c .before .if1 .taken))

@@ -4,8 +4,6 @@ use Rattle.words.proofs.ListLaws.{sets-whole}
 use borrow.Author.Needs.{needs}
 use Rattle.answers.proofs.beside.put3.Statement.{statement}
 use Rattle.answers.proofs.beside.put3.Tie as tie
-use Rattle.answers.proofs.beside.put3.Reads as reads
-use Rattle.answers.proofs.beside.put3.Lts as lts
 
 slice-write-out : tie.Need-slice-write-out
 slice-write-out c = search needs

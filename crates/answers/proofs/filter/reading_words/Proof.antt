@@ -4,9 +4,6 @@ use Rattle.range_filter.specs.Promise.{readingBeside}
 use borrow.Author.Needs.{needs}
 use Rattle.answers.proofs.filter.reading_words.Statement.{statement}
 use Rattle.answers.proofs.filter.reading_words.Tie as tie
-use Rattle.answers.proofs.filter.reading_words.Reads as reads
-use Rattle.answers.proofs.filter.reading_words.Lts as lts
-use Rattle.answers.proofs.beside.put4.Reads as put4-reads
 
 enum-told : tie.Need-enum-told
 enum-told c = search needs

@@ -4,9 +4,6 @@ use Rattle.column_index.specs.Promise.{build-beside}
 use borrow.Author.Needs.{needs}
 use Rattle.answers.proofs.index.build_words.Statement.{statement}
 use Rattle.answers.proofs.index.build_words.Tie as tie
-use Rattle.answers.proofs.index.build_words.Reads as reads
-use Rattle.answers.proofs.index.build_words.Lts as lts
-use Rattle.answers.proofs.beside.put4.Reads as put4-reads
 
 enum-known-answer : tie.Need-enum-known-answer
 enum-known-answer c = search needs

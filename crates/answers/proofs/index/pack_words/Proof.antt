@@ -4,9 +4,6 @@ use Rattle.column_index.specs.Promise.{pack-beside}
 use borrow.Author.Needs.{needs}
 use Rattle.answers.proofs.index.pack_words.Statement.{statement}
 use Rattle.answers.proofs.index.pack_words.Tie as tie
-use Rattle.answers.proofs.index.pack_words.Reads as reads
-use Rattle.answers.proofs.index.pack_words.Lts as lts
-use Rattle.answers.proofs.beside.put3.Reads as put3-reads
 
 enum-known-answer : tie.Need-enum-known-answer
 enum-known-answer c = search needs

@@ -4,9 +4,6 @@ use Rattle.answers.specs.Beside.{step-beside}
 use borrow.Author.Needs.{needs}
 use Rattle.answers.proofs.index.step_words.Statement.{statement}
 use Rattle.answers.proofs.index.step_words.Tie as tie
-use Rattle.answers.proofs.index.step_words.Reads as reads
-use Rattle.answers.proofs.index.step_words.Lts as lts
-use Rattle.answers.proofs.beside.put5.Reads as put5-reads
 
 enum-known-answer : tie.Need-enum-known-answer
 enum-known-answer c = search needs

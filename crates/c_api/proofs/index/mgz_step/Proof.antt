@@ -4,11 +4,6 @@ use Rattle.answers.specs.Beside.{step-number, step-beside}
 use borrow.Author.Needs.{needs}
 use Rattle.c_api.proofs.index.mgz_step.Statement.{statement}
 use Rattle.c_api.proofs.index.mgz_step.Tie as tie
-use Rattle.c_api.proofs.index.mgz_step.Reads as reads
-use Rattle.c_api.proofs.index.mgz_step.Lts as lts
-use Rattle.answers.proofs.index.step_number.Reads as step-number-reads
-use Rattle.answers.proofs.index.step_words.Reads as step-words-reads
-use Rattle.dictionary.proofs.Position.step.Reads as step-reads
 
 step-requires : tie.Need-step-requires
 step-requires c κs = search needs

@@ -1,17 +1,16 @@
 -- `range_text::answering::answer_text` meets its contract. Assumes nothing.
-use Prim.Native.Nat.{ℕ, _<_, _≤_}
-use mathlib.Core.Path.{_≡_, refl, sym, _∙_, ap}
-use mathlib.Core.List.{List, [], _∷_, _++_}
+use Prim.Native.Nat.{ℕ, _<_}
+use mathlib.Core.Path.{sym, _∙_, ap}
+use mathlib.Core.List.{[]}
 use native.Mathlib.Omega.{arith}
-use lib.ListN.{length, take, getD}
-use lib.Seq.{length-take-le, sets}
+use lib.ListN.{getD}
+use lib.Seq.{length-take-le}
 use mir.Syntax.{w32}
 use mir.ValLaws.{toZ-ofZ}
 use borrow.Author.Needs.{needs}
-use Rattle.words.specs.Numbers.{numbered}
 use lib.IntN.{ℤ}
 use mir.Val.{toZ, ofZ}
-use Rattle.range_input.specs.Input.{column-of, low-of, high-of}
+use Rattle.range_input.specs.Input.{low-of, high-of}
 use Rattle.range_text.specs.Text.{range-text, text-of}
 use Rattle.range_text.proofs.PutsLaws.{puts-as}
 use Rattle.range_text.proofs.LengthLaws.{refused-short}
@@ -19,11 +18,6 @@ use Rattle.range_input.proofs.InputLaws.{was-unread, was-read, few-read, column
 use Rattle.range_text.proofs.WritesLaws.{unread-text, read-text, writes-nothing, writes-text}
 use Rattle.range_text.proofs.answering.answer_text.Statement.{statement}
 use Rattle.range_text.proofs.answering.answer_text.Tie as tie
-use Rattle.range_text.proofs.answering.answer_text.Reads as reads
-use Rattle.range_text.proofs.answering.answer_text.Lts as lts
-use Rattle.range_text.proofs.answering.column_text.Reads as column-text-reads
-use Rattle.range_input.proofs.decode.Reads as decode-reads
-use Rattle.range_text.proofs.writing.put_refused.Reads as put-refused-reads
 
 returns : tie.Need-returns
 returns c = let s = c .before .before .before in writes-nothing (s .args .input .now) (s .args .out .now) (c .if1 .taken)

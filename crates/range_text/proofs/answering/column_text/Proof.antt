@@ -1,10 +1,8 @@
 -- `range_text::answering::column_text` meets its contract: build has room for the index of 8,192 rows. Assumes nothing.
-use Prim.Native.Nat.{ℕ, _<_, _≤_}
-use mathlib.Core.Path.{_≡_, refl, sym, _∙_, ap}
-use mathlib.Core.List.{List, [], _∷_, _++_}
+use mathlib.Core.Path.{refl, sym, ap}
+use mathlib.Core.List.{[]}
 use native.Mathlib.Omega.{arith}
-use lib.ListN.{length, take}
-use lib.Seq.{length-take-le, sets}
+use lib.Seq.{length-take-le}
 use mir.Syntax.{w32}
 use mir.ValLaws.{toZ-ofZ}
 use borrow.Author.Needs.{needs}
@@ -16,10 +14,6 @@ use Rattle.range_text.proofs.PutsLaws.{puts-as}
 use Rattle.range_text.proofs.AnswerLaws.{build-never, fronts-few, fronts-are}
 use Rattle.range_text.proofs.answering.column_text.Statement.{statement}
 use Rattle.range_text.proofs.answering.column_text.Tie as tie
-use Rattle.range_text.proofs.answering.column_text.Reads as reads
-use Rattle.range_text.proofs.answering.column_text.Lts as lts
-use Rattle.column_index.proofs.made.build.Reads as build-reads
-use Rattle.range_text.proofs.answering.searched_text.Reads as searched-text-reads
 
 slice-aggregate-build : tie.Need-slice-aggregate-build
 slice-aggregate-build c = search needs

@@ -1,10 +1,8 @@
 -- `range_text::answering::searched_text` meets its contract: with a column's own index only 0 and 1 can arise. Assumes nothing.
-use Prim.Native.Nat.{ℕ, _<_, _≤_}
-use mathlib.Core.Path.{_≡_, refl, sym, _∙_, ap}
-use mathlib.Core.List.{List, [], _∷_, _++_}
+use mathlib.Core.Path.{refl, sym, ap}
+use mathlib.Core.List.{[]}
 use native.Mathlib.Omega.{arith}
-use lib.ListN.{length, take}
-use lib.Seq.{length-take-le, sets}
+use lib.Seq.{length-take-le}
 use mir.Syntax.{w32}
 use mir.ValLaws.{toZ-ofZ}
 use borrow.Author.Needs.{needs}
@@ -17,12 +15,6 @@ use Rattle.range_text.proofs.LengthLaws.{refused-short}
 use Rattle.range_text.proofs.AnswerLaws.{never, low-text, count-few, all-below, six-numbers, text-is, text-room}
 use Rattle.range_text.proofs.answering.searched_text.Statement.{statement}
 use Rattle.range_text.proofs.answering.searched_text.Tie as tie
-use Rattle.range_text.proofs.answering.searched_text.Reads as reads
-use Rattle.range_text.proofs.answering.searched_text.Lts as lts
-use Rattle.column_index.proofs.search.Reads as search-reads
-use Rattle.range_text.proofs.answering.line_count.Reads as line-count-reads
-use Rattle.range_text.proofs.writing.put_found.Reads as put-found-reads
-use Rattle.range_text.proofs.writing.put_refused.Reads as put-refused-reads
 
 slice-aggregate-search : tie.Need-slice-aggregate-search
 slice-aggregate-search c = search needs

@@ -1,7 +1,7 @@
 -- `range_text::writing::put_number` meets its contract: a tenth of the number first, then its last digit. Assumes nothing.
 use Prim.Native.Nat.{_+_, _/_, _%_}
-use mathlib.Core.Path.{_≡_, sym, _∙_, ap}
-use mathlib.Core.List.{List, [], _∷_}
+use mathlib.Core.Path.{sym, _∙_, ap}
+use mathlib.Core.List.{[], _∷_}
 use native.Mathlib.Omega.{arith}
 use lib.ListN.{length, length-append}
 use borrow.Author.Needs.{needs}

@@ -1,18 +1,10 @@
 -- `range_text::writing::put_found` meets its contract. Assumes nothing.
-use Prim.Native.Nat.{ℕ, _<_}
-use mathlib.Core.Path.{_≡_, refl, sym, _∙_, ap}
-use mathlib.Core.List.{List, [], _∷_, _++_}
-use native.Mathlib.Omega.{arith}
+use mathlib.Core.List.{[], _++_}
 use borrow.Author.Needs.{needs}
 use Rattle.range_text.specs.Text.{three, row-lines, found-text, rows-word, lines-word, borders-word, whole-word, compared-word, skipped-word}
 use Rattle.range_text.proofs.PutsLaws.{room-first, room-then, puts-then}
 use Rattle.range_text.proofs.writing.put_found.Statement.{statement}
 use Rattle.range_text.proofs.writing.put_found.Tie as tie
-use Rattle.range_text.proofs.writing.put_found.Reads as reads
-use Rattle.range_text.proofs.writing.put_found.Lts as lts
-use Rattle.range_text.proofs.writing.put_counts.Reads as put-counts-reads
-use Rattle.range_text.proofs.writing.put_rows.Reads as put-rows-reads
-use Rattle.range_text.proofs.writing.put_size.Reads as put-size-reads
 
 put-size-requires : tie.Need-put-size-requires
 unfolding found-text

@@ -1,17 +1,10 @@
 -- `range_text::writing::put_labelled` meets its contract. Assumes nothing.
-use Prim.Native.Nat.{ℕ, _<_}
-use mathlib.Core.Path.{_≡_, refl, sym, _∙_, ap}
-use mathlib.Core.List.{List, [], _∷_, _++_}
-use native.Mathlib.Omega.{arith}
+use mathlib.Core.List.{[]}
 use borrow.Author.Needs.{needs}
 use Rattle.range_text.specs.Text.{decimal, labelled}
 use Rattle.range_text.proofs.PutsLaws.{room-first, room-then, puts-then}
 use Rattle.range_text.proofs.writing.put_labelled.Statement.{statement}
 use Rattle.range_text.proofs.writing.put_labelled.Tie as tie
-use Rattle.range_text.proofs.writing.put_labelled.Reads as reads
-use Rattle.range_text.proofs.writing.put_labelled.Lts as lts
-use Rattle.range_text.proofs.writing.put_number.Reads as put-number-reads
-use Rattle.range_text.proofs.writing.put_word.Reads as put-word-reads
 
 put-word-requires : tie.Need-put-word-requires
 unfolding labelled

@@ -1,17 +1,10 @@
 -- `range_text::writing::put_refused` meets its contract. Assumes nothing.
-use Prim.Native.Nat.{ℕ, _<_}
-use mathlib.Core.Path.{_≡_, refl, sym, _∙_, ap}
-use mathlib.Core.List.{List, [], _∷_, _++_}
-use native.Mathlib.Omega.{arith}
+use mathlib.Core.List.{[], _∷_}
 use borrow.Author.Needs.{needs}
 use Rattle.range_text.specs.Text.{labelled, refused-word, refused-line}
 use Rattle.range_text.proofs.PutsLaws.{room-first, room-then, puts-then}
 use Rattle.range_text.proofs.writing.put_refused.Statement.{statement}
 use Rattle.range_text.proofs.writing.put_refused.Tie as tie
-use Rattle.range_text.proofs.writing.put_refused.Reads as reads
-use Rattle.range_text.proofs.writing.put_refused.Lts as lts
-use Rattle.range_text.proofs.writing.put_byte.Reads as put-byte-reads
-use Rattle.range_text.proofs.writing.put_labelled.Reads as put-labelled-reads
 
 slice-aggregate-put-labelled : tie.Need-slice-aggregate-put-labelled
 slice-aggregate-put-labelled c = search needs

@@ -1,17 +1,10 @@
 -- `range_text::writing::put_row` meets its contract. Assumes nothing.
-use Prim.Native.Nat.{ℕ, _<_}
-use mathlib.Core.Path.{_≡_, refl, sym, _∙_, ap}
-use mathlib.Core.List.{List, [], _∷_, _++_}
-use native.Mathlib.Omega.{arith}
+use mathlib.Core.List.{[], _∷_}
 use borrow.Author.Needs.{needs}
 use Rattle.range_text.specs.Text.{decimal, row-line}
 use Rattle.range_text.proofs.PutsLaws.{room-first, room-then, puts-then}
 use Rattle.range_text.proofs.writing.put_row.Statement.{statement}
 use Rattle.range_text.proofs.writing.put_row.Tie as tie
-use Rattle.range_text.proofs.writing.put_row.Reads as reads
-use Rattle.range_text.proofs.writing.put_row.Lts as lts
-use Rattle.range_text.proofs.writing.put_byte.Reads as put-byte-reads
-use Rattle.range_text.proofs.writing.put_number.Reads as put-number-reads
 
 put-number-requires : tie.Need-put-number-requires
 unfolding row-line

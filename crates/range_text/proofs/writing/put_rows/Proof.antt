@@ -1,7 +1,7 @@
 -- `range_text::writing::put_rows` meets its contract: the lines still to come fix every byte. Assumes nothing.
-use Prim.Native.Nat.{ℕ, _<_, _≤_, _+_, _-_}
-use mathlib.Core.Path.{_≡_, refl, sym, _∙_, ap}
-use mathlib.Core.List.{List, [], _∷_, _++_}
+use Prim.Native.Nat.{_≤_, _+_, _-_}
+use mathlib.Core.Path.{ap}
+use mathlib.Core.List.{[]}
 use native.Mathlib.Omega.{arith}
 use borrow.Author.Needs.{needs}
 use lib.ListN.{length, drop, getD}
@@ -9,10 +9,6 @@ use Rattle.range_text.specs.Text.{row-line, row-lines}
 use Rattle.range_text.proofs.PutsLaws.{puts-as, rows-more, rows-none, Rest, rest-starts, rest-room, rest-next, rest-ends}
 use Rattle.range_text.proofs.writing.put_rows.Statement.{statement}
 use Rattle.range_text.proofs.writing.put_rows.Tie as tie
-use Rattle.range_text.proofs.writing.put_rows.Reads as reads
-use Rattle.range_text.proofs.writing.put_rows.Lts as lts
-use Rattle.range_text.proofs.writing.put_row.Reads as put-row-reads
-use Rattle.range_text.proofs.writing.wide.Reads as wide-reads
 
 abbrev Inv-loop : tie.InvT-loop
 Inv-loop out₀ at rows here₀ i₀ out here i = (i ≤ length rows) × Rest out₀ at (row-lines rows) out here (row-lines (drop i rows))

@@ -1,17 +1,10 @@
 -- `range_text::writing::put_three` meets its contract. Assumes nothing.
-use Prim.Native.Nat.{ℕ, _<_}
-use mathlib.Core.Path.{_≡_, refl, sym, _∙_, ap}
-use mathlib.Core.List.{List, [], _∷_, _++_}
-use native.Mathlib.Omega.{arith}
+use mathlib.Core.List.{[], _∷_, _++_}
 use borrow.Author.Needs.{needs}
 use Rattle.range_text.specs.Text.{labelled, three}
 use Rattle.range_text.proofs.PutsLaws.{room-first, room-then, puts-then}
 use Rattle.range_text.proofs.writing.put_three.Statement.{statement}
 use Rattle.range_text.proofs.writing.put_three.Tie as tie
-use Rattle.range_text.proofs.writing.put_three.Reads as reads
-use Rattle.range_text.proofs.writing.put_three.Lts as lts
-use Rattle.range_text.proofs.writing.put_byte.Reads as put-byte-reads
-use Rattle.range_text.proofs.writing.put_labelled.Reads as put-labelled-reads
 
 put-labelled-requires : tie.Need-put-labelled-requires
 unfolding three

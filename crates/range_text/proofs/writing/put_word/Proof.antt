@@ -8,8 +8,6 @@ use borrow.Author.Needs.{needs}
 use Rattle.range_text.proofs.PutsLaws.{word-next, word-ends}
 use Rattle.range_text.proofs.writing.put_word.Statement.{statement}
 use Rattle.range_text.proofs.writing.put_word.Tie as tie
-use Rattle.range_text.proofs.writing.put_word.Reads as reads
-use Rattle.range_text.proofs.writing.put_word.Lts as lts
 
 abbrev Inv-loop : tie.InvT-loop
 Inv-loop out₀ at word i₀ out i = (i ≤ length word) × (length out ≡ length out₀) × (sets out (at + i) (drop i word) ≡ sets out₀ at word)

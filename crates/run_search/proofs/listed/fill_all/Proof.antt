@@ -1,25 +1,20 @@
 -- `run_search::listed::fill_all` meets its contract: the loop keeps `Filling`. Assumes nothing.
-use Prim.Native.Nat.{ℕ, _≤_, _<_, _-_, _+_}
-use mathlib.Core.Path.{_≡_, refl, sym, ap, _∙_}
+use Prim.Native.Nat.{ℕ, _-_, _+_}
+use mathlib.Core.Path.{ap, _∙_}
 use mathlib.Core.List.{List}
 use native.Mathlib.Omega.{arith}
-use lib.ListN.{length, drop, getD, length-drop}
+use lib.ListN.{length, getD, length-drop}
 use lib.Seq.{sets}
 use borrow.Author.Needs.{needs}
 use Rattle.words.proofs.ListLaws.{part-from}
 use Rattle.bins.specs.Bins.{readings}
-use Rattle.dictionary.specs.Dictionary.{count-of, unpack}
-use Rattle.dictionary.specs.Entries.{lines-in, uses}
+use Rattle.dictionary.specs.Dictionary.{count-of}
+use Rattle.dictionary.specs.Entries.{lines-in}
 use Rattle.run_search.specs.Runs.{asked-of, through}
 use Rattle.run_search.proofs.EntryLaws.{going-next}
 use Rattle.run_search.proofs.FillLaws.{Filling, filling-starts, filling-next, filling-ends, filling-room}
 use Rattle.run_search.proofs.listed.fill_all.Statement.{statement}
 use Rattle.run_search.proofs.listed.fill_all.Tie as tie
-use Rattle.run_search.proofs.listed.fill_all.Reads as reads
-use Rattle.run_search.proofs.listed.fill_all.Lts as lts
-use Rattle.run_search.proofs.listed.fill_entry.Reads as fill-entry-reads
-use Rattle.dictionary.proofs.unpacking.used.Reads as used-reads
-use Rattle.dictionary.proofs.count_of.Reads as count-of-reads
 
 abbrev Inv-loop : tie.InvT-loop
 Inv-loop rows₀ column imprints dictionary ask at₀ e₀ i₀ c₀ rows at e i c = Filling (asked-of ask) column dictionary imprints rows₀ e i c rows at

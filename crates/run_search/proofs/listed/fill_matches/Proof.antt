@@ -1,10 +1,10 @@
 -- `run_search::listed::fill_matches` meets its contract. Assumes nothing.
 use Prim.Native.Nat.{ℕ, _≤_, _<_, _-_, _+_}
-use mathlib.Core.Path.{_≡_, refl, sym, ap, _∙_}
+use mathlib.Core.Path.{_≡_, sym, ap}
 use mathlib.Core.List.{List, [], _∷_, _++_}
 use mathlib.Core.Bool.{Bool, true, false, cond, false≢true}
 use native.Mathlib.Omega.{arith}
-use lib.ListN.{length, drop, getD, length-append}
+use lib.ListN.{length, drop, getD}
 use lib.IntN.{ℤ, pos}
 use mir.Syntax.{w32}
 use mir.Val.{toZ, ofZ}
@@ -16,9 +16,6 @@ use Rattle.run_search.specs.Search.{scan}
 use Rattle.run_search.proofs.FillLaws.{Listing, listing-next, listing-ends, listing-room, scan-starts, scan-turn, scan-end}
 use Rattle.run_search.proofs.listed.fill_matches.Statement.{statement}
 use Rattle.run_search.proofs.listed.fill_matches.Tie as tie
-use Rattle.run_search.proofs.listed.fill_matches.Reads as reads
-use Rattle.run_search.proofs.listed.fill_matches.Lts as lts
-use Rattle.run_search.proofs.listed.put_row.Reads as put-row-reads
 
 abbrev Inv-loop : tie.InvT-loop
 Inv-loop rows₀ at part ask a n₀ i₀ rows n i = (i ≤ length part) × Listing rows₀ at (scan readings (ask .low) (ask .high) a part) rows n (scan readings (ask .low) (ask .high) (a + i) (drop i part))

@@ -1,7 +1,6 @@
 -- `run_search::listed::fill_plain` meets its contract. Assumes nothing.
-use Prim.Native.Nat.{ℕ, _≤_, _<_, _-_, _+_}
-use mathlib.Core.Path.{_≡_, refl, sym, ap, _∙_}
-use mathlib.Core.List.{List, _++_}
+use Prim.Native.Nat.{_≤_, _-_, _+_}
+use mathlib.Core.Path.{ap}
 use native.Mathlib.Omega.{arith}
 use lib.ListN.{length, drop, getD, length-append}
 use borrow.Author.Needs.{needs}
@@ -10,9 +9,6 @@ use Rattle.run_search.specs.Runs.{asked-of, through, run-at}
 use Rattle.run_search.proofs.FillLaws.{Listing, listing-next, listing-ends, listing-room, through-starts, lines-ids, lines-no-ids}
 use Rattle.run_search.proofs.listed.fill_plain.Statement.{statement}
 use Rattle.run_search.proofs.listed.fill_plain.Tie as tie
-use Rattle.run_search.proofs.listed.fill_plain.Reads as reads
-use Rattle.run_search.proofs.listed.fill_plain.Lts as lts
-use Rattle.run_search.proofs.listed.fill_run.Reads as fill-run-reads
 
 abbrev Inv-loop : tie.InvT-loop
 Inv-loop rows₀ at column imprints ask first n₀ i₀ rows n i =

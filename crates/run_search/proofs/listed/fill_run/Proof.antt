@@ -1,6 +1,6 @@
 -- `run_search::listed::fill_run` meets its contract, fate by fate. Assumes nothing.
-use Prim.Native.Nat.{ℕ, _≤_, _<_, _+_, _*_}
-use mathlib.Core.Path.{_≡_, refl, sym, ap, ap₂, _∙_}
+use Prim.Native.Nat.{ℕ, _+_, _*_}
+use mathlib.Core.Path.{_≡_, sym, ap, ap₂, _∙_}
 use mathlib.Core.List.{List, []}
 use native.Mathlib.Omega.{arith}
 use native.Mathlib.Nat.{add-zero}
@@ -16,13 +16,6 @@ use Rattle.run_search.proofs.FillLaws.{skipped-ids, whole-ids, compared
 use borrow.Author.Needs.{needs}
 use Rattle.run_search.proofs.listed.fill_run.Statement.{statement}
 use Rattle.run_search.proofs.listed.fill_run.Tie as tie
-use Rattle.run_search.proofs.listed.fill_run.Reads as reads
-use Rattle.run_search.proofs.listed.fill_run.Lts as lts
-use Rattle.bins.proofs.fate_of.Reads as fate-of-reads
-use Rattle.run_search.proofs.listed.fill_matches.Reads as fill-matches-reads
-use Rattle.run_search.proofs.listed.fill_whole.Reads as fill-whole-reads
-use Rattle.run_search.proofs.listed.first_row.Reads as first-row-reads
-use Rattle.run_search.proofs.rows.lines_of.Reads as lines-of-reads
 
 lines-of-requires : tie.Need-lines-of-requires
 lines-of-requires c κs = search needs

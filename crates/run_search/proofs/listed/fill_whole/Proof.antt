@@ -1,17 +1,13 @@
 -- `run_search::listed::fill_whole` meets its contract. Assumes nothing.
-use Prim.Native.Nat.{ℕ, _≤_, _<_, _-_, _+_}
-use mathlib.Core.Path.{_≡_, refl, sym, ap, _∙_}
-use mathlib.Core.List.{List, [], _∷_}
+use Prim.Native.Nat.{_≤_, _-_, _+_}
+use mathlib.Core.Path.{_≡_, refl}
+use mathlib.Core.List.{[], _∷_}
 use native.Mathlib.Omega.{arith}
-use lib.ListN.{length}
 use lib.Seq.{sets}
-use borrow.Author.Needs.{needs}
 use Rattle.words.specs.Lists.{from}
 use Rattle.run_search.proofs.FillLaws.{Listing, listing-next, listing-ends, from-starts, from-turn, from-end}
 use Rattle.run_search.proofs.listed.fill_whole.Statement.{statement}
 use Rattle.run_search.proofs.listed.fill_whole.Tie as tie
-use Rattle.run_search.proofs.listed.fill_whole.Reads as reads
-use Rattle.run_search.proofs.listed.fill_whole.Lts as lts
 
 abbrev Inv-loop : tie.InvT-loop
 Inv-loop rows₀ at n a i₀ rows i = (i ≤ n) × Listing rows₀ at (from a n) rows (at + i) (from (a + i) (n - i))

@@ -1,11 +1,7 @@
 -- `run_search::listed::put_row` meets its contract. Assumes nothing.
-use Prim.Native.Nat.{ℕ, _≤_, _<_, _+_}
-use mathlib.Core.Path.{_≡_, refl, sym, ap, _∙_}
-use mathlib.Core.List.{List, [], _∷_}
-use mathlib.Core.Bool.{Bool, true, false, cond}
+use mathlib.Core.Path.{_≡_, refl, sym, _∙_}
+use mathlib.Core.List.{[]}
 use native.Mathlib.Omega.{arith}
-use lib.ListN.{length, set}
-use lib.Seq.{sets}
 use mir.Syntax.{w32}
 use mir.ValLaws.{toZ-ofZ}
 use Rattle.bins.specs.Bins.{readings}
@@ -13,9 +9,6 @@ use Rattle.bins.specs.Masks.{matches}
 use borrow.Author.Needs.{needs}
 use Rattle.run_search.proofs.listed.put_row.Statement.{statement}
 use Rattle.run_search.proofs.listed.put_row.Tie as tie
-use Rattle.run_search.proofs.listed.put_row.Reads as reads
-use Rattle.run_search.proofs.listed.put_row.Lts as lts
-use Rattle.bins.proofs.in_range.Reads as in-range-reads
 
 in-range-requires : tie.Need-in-range-requires
 in-range-requires c κs = search needs

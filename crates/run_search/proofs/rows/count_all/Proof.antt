@@ -1,24 +1,18 @@
 -- `run_search::rows::count_all` meets its contract: the loop keeps `Counting`. Assumes nothing.
-use Prim.Native.Nat.{ℕ, _≤_, _<_, _-_, _+_}
-use mathlib.Core.Path.{_≡_, refl, sym, ap, subst, _∙_}
+use Prim.Native.Nat.{ℕ, _-_}
+use mathlib.Core.Path.{ap, _∙_}
 use mathlib.Core.List.{List}
 use native.Mathlib.Omega.{arith}
-use lib.ListN.{length, drop, getD, take, length-drop}
+use lib.ListN.{length, getD, length-drop}
 use borrow.Author.Needs.{needs}
 use Rattle.words.proofs.ListLaws.{part-from}
 use Rattle.bins.specs.Bins.{readings}
-use Rattle.dictionary.specs.Dictionary.{count-of, unpack}
-use Rattle.dictionary.specs.Entries.{lines-in, uses}
-use Rattle.run_search.specs.Runs.{asked-of, through, plus, tally}
-use Rattle.run_search.specs.declared.rows.Tally.{Tally}
-use Rattle.run_search.proofs.EntryLaws.{Counting, counting-starts, counting-next, counting-ends, Going, Next, going-next}
+use Rattle.dictionary.specs.Dictionary.{count-of}
+use Rattle.dictionary.specs.Entries.{lines-in}
+use Rattle.run_search.specs.Runs.{asked-of, through, plus}
+use Rattle.run_search.proofs.EntryLaws.{Counting, counting-starts, counting-next, counting-ends, going-next}
 use Rattle.run_search.proofs.rows.count_all.Statement.{statement}
 use Rattle.run_search.proofs.rows.count_all.Tie as tie
-use Rattle.run_search.proofs.rows.count_all.Reads as reads
-use Rattle.run_search.proofs.rows.count_all.Lts as lts
-use Rattle.run_search.proofs.rows.count_entry.Reads as count-entry-reads
-use Rattle.dictionary.proofs.unpacking.used.Reads as used-reads
-use Rattle.dictionary.proofs.count_of.Reads as count-of-reads
 
 abbrev Inv-loop : tie.InvT-loop
 Inv-loop column imprints dictionary ask so-far₀ e₀ i₀ c₀ so-far e i c = Counting (asked-of ask) column dictionary imprints e i c so-far

@@ -1,6 +1,6 @@
 -- `run_search::rows::count_entry` meets its contract: a repeat entry is one run, a plain one its imprints. Assumes nothing.
-use Prim.Native.Nat.{ℕ, _≤_, _<_, _+_}
-use mathlib.Core.Path.{_≡_, sym, ap, ap₂, _∙_}
+use Prim.Native.Nat.{ℕ, _≤_}
+use mathlib.Core.Path.{_≡_, sym, ap, _∙_}
 use mathlib.Core.List.{List}
 use mathlib.Core.Bool.{true, false}
 use native.Mathlib.Omega.{arith}
@@ -8,7 +8,6 @@ use lib.ListN.{length, take, getD}
 use lib.Seq.{length-take-le}
 use Rattle.bins.specs.Bins.{readings}
 use Rattle.dictionary.specs.Dictionary.{count-of, repeated}
-use Rattle.dictionary.specs.Entries.{uses}
 use Rattle.run_search.specs.Runs.{asked-of, through, run-at, plus}
 use Rattle.run_search.proofs.RunLaws.{through-run}
 use Rattle.run_search.proofs.EntryLaws.{lines-repeat, lines-plain}
@@ -16,12 +15,6 @@ use Rattle.dictionary.proofs.GoodLaws.{uses-one, uses-all}
 use borrow.Author.Needs.{needs}
 use Rattle.run_search.proofs.rows.count_entry.Statement.{statement}
 use Rattle.run_search.proofs.rows.count_entry.Tie as tie
-use Rattle.run_search.proofs.rows.count_entry.Reads as reads
-use Rattle.run_search.proofs.rows.count_entry.Lts as lts
-use Rattle.run_search.proofs.rows.count_plain.Reads as count-plain-reads
-use Rattle.run_search.proofs.rows.count_run.Reads as count-run-reads
-use Rattle.dictionary.proofs.count_of.Reads as count-of-reads
-use Rattle.dictionary.proofs.is_repeat.Reads as is-repeat-reads
 
 count-of-requires : tie.Need-count-of-requires
 count-of-requires c κs = search needs

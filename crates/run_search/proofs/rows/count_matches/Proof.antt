@@ -1,7 +1,6 @@
 -- `run_search::rows::count_matches` meets its contract: the count so far, and the matches of what is left, are all the matches. Assumes nothing.
-use Prim.Native.Nat.{ℕ, _≤_, _<_, _-_, _+_}
+use Prim.Native.Nat.{ℕ, _≤_, _-_, _+_}
 use mathlib.Core.Path.{_≡_, sym, ap, _∙_}
-use mathlib.Core.Bool.{Bool, true, false, cond}
 use native.Mathlib.Omega.{arith}
 use lib.ListN.{length, drop, getD}
 use lib.IntN.{ℤ, pos}
@@ -10,7 +9,6 @@ use mir.Syntax.{w32}
 use mir.Val.{toZ, ofZ}
 use mir.ValLaws.{toZ-ofZ}
 use Rattle.bins.specs.Bins.{readings}
-use Rattle.bins.specs.Masks.{matches}
 use Rattle.run_search.specs.Search.{scan}
 use Rattle.run_search.proofs.RunLaws.{count-turn, count-none}
 use Rattle.run_search.proofs.rows.count_matches.Statement.{statement}

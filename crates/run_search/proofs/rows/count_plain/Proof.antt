@@ -1,21 +1,17 @@
 -- `run_search::rows::count_plain` meets its contract: the tally so far, and the lines that are left, are all the lines. Assumes nothing.
-use Prim.Native.Nat.{ℕ, _≤_, _<_, _-_, _+_}
-use mathlib.Core.Path.{_≡_, refl, sym, ap, subst, _∙_}
-use mathlib.Core.List.{List}
+use Prim.Native.Nat.{ℕ, _≤_, _-_, _+_}
+use mathlib.Core.Path.{_≡_, sym, ap, subst, _∙_}
 use native.Mathlib.Omega.{arith}
 use native.Mathlib.Nat.{add-zero}
 use lib.ListN.{length, drop, getD}
 use borrow.Author.Needs.{needs}
 use Rattle.bins.specs.Bins.{readings}
-use Rattle.run_search.specs.Runs.{asked-of, through, run-at, then, plus, Within}
+use Rattle.run_search.specs.Runs.{asked-of, through, run-at, plus, Within}
 use Rattle.run_search.specs.declared.rows.Tally.{Tally}
 use Rattle.run_search.proofs.RunLaws.{plus-then, plus-nothing, run-at-within, values-length}
 use Rattle.run_search.proofs.EntryLaws.{lines-turn, lines-end}
 use Rattle.run_search.proofs.rows.count_plain.Statement.{statement}
 use Rattle.run_search.proofs.rows.count_plain.Tie as tie
-use Rattle.run_search.proofs.rows.count_plain.Reads as reads
-use Rattle.run_search.proofs.rows.count_plain.Lts as lts
-use Rattle.run_search.proofs.rows.count_run.Reads as count-run-reads
 
 abbrev Inv-loop : tie.InvT-loop
 Inv-loop column imprints ask first so-far₀ i₀ so-far i =

@@ -1,6 +1,5 @@
 -- `run_search::rows::count_run` meets its contract, fate by fate. Assumes nothing.
 use mathlib.Core.Path.{_≡_, sym, ap, _∙_}
-use Prim.Native.Nat.{ℕ, _≤_, _<_, _+_}
 use native.Mathlib.Omega.{arith}
 use lib.ListN.{length}
 use lib.IntN.{ℤ}
@@ -12,11 +11,6 @@ use Rattle.run_search.specs.Search.{scan}
 use Rattle.run_search.proofs.RunLaws.{skipped-run, whole-run, compared-run, values-within}
 use Rattle.run_search.proofs.rows.count_run.Statement.{statement}
 use Rattle.run_search.proofs.rows.count_run.Tie as tie
-use Rattle.run_search.proofs.rows.count_run.Reads as reads
-use Rattle.run_search.proofs.rows.count_run.Lts as lts
-use Rattle.bins.proofs.fate_of.Reads as fate-of-reads
-use Rattle.run_search.proofs.rows.count_matches.Reads as count-matches-reads
-use Rattle.run_search.proofs.rows.lines_of.Reads as lines-of-reads
 
 lines-of-requires : tie.Need-lines-of-requires
 lines-of-requires c κs = search needs

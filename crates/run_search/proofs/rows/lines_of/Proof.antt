@@ -6,9 +6,6 @@ use borrow.Author.Needs.{needs}
 use Rattle.run_search.proofs.RunLaws.{part-values}
 use Rattle.run_search.proofs.rows.lines_of.Statement.{statement}
 use Rattle.run_search.proofs.rows.lines_of.Tie as tie
-use Rattle.run_search.proofs.rows.lines_of.Reads as reads
-use Rattle.run_search.proofs.rows.lines_of.Lts as lts
-use Rattle.run_search.proofs.rows.row_of.Reads as row-of-reads
 
 row-of-requires : tie.Need-row-of-requires
 row-of-requires c κs = search needs
