@@ -8,8 +8,7 @@ use range_filter::Made;
 use range_filter::Reading;
 ghost use mathlib.Core.Path.{_≡_};
 ghost use lib.ListN.{length};
-ghost use Rattle.range_filter.specs.Promise.{madeNumber, madeBeside, askedNumber, learntNumber, arrivedNumber, departedNumber, forgotNumber, readingNumber, readingBeside};
-ghost use Rattle.answers.specs.Beside.{look-word};
+ghost use Rattle.range_filter.specs.Promise.{madeNumber, madeBeside, askedNumber, askedBeside, learntNumber, arrivedNumber, departedNumber, forgotNumber, readingNumber, readingBeside};
 
 // ---- fresh
 
@@ -50,7 +49,7 @@ pub fn asked_number(answer: Asked) -> u32
 }
 
 pub fn look_word(answer: Asked) -> u32
-    ensures { λ r. ⌜ r ≡ look-word answer ⌝ }
+    ensures { λ r. ⌜ r ≡ askedBeside answer ⌝ }
 {
     match answer {
         Asked::NoFilter => 0,

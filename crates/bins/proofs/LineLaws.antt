@@ -6,10 +6,8 @@ use native.Mathlib.Omega.{arith}
 use mathlib.Core.List.{List, [], _∷_, map}
 use lib.IntN.{ℤ}
 use lib.ListN.{length, getD, take, drop}
-use lib.Seq.{drop-cons}
 use Rattle.words.specs.Lists.{from, ceil}
 use Rattle.bins.specs.Bins.{Kind, imprint, imprints}
-use Rattle.bins.proofs.BinLaws.{imprints-length}
 
 -- what stands at place i of a list of n values from number a on
 pub from-place {ℓ} : {A : Type ℓ} (f : ℕ → A) (d : A) (a n i : ℕ) → i < n → getD (map f (from a n)) i d ≡ f (a + i)
@@ -32,7 +30,3 @@ module _ (k : Kind) (bs col : List ℤ) (c : ℕ) (h : c < ceil (length col) (k 
       ap (λ (l : List ℕ). getD l c 0) (map-map (imprint k bs) (λ (i : ℕ). take (k .per) (drop (k .per * i) col)) (from 0 (ceil (length col) (k .per))))
       ∙ from-place (λ (i : ℕ). imprint k bs (take (k .per) (drop (k .per * i) col))) 0 0 (ceil (length col) (k .per)) c h
       ∙ ap (λ (i : ℕ). imprint k bs (take (k .per) (drop (k .per * i) col))) (zero-add c)
-
-  -- and the imprints from line c on
-  pub imprints-next : drop c (imprints k bs col) ≡ imprint k bs (take (k .per) (drop (k .per * c) col)) ∷ drop (suc c) (imprints k bs col)
-  imprints-next = drop-cons (imprints k bs col) c 0 (rw imprints-length h) ∙ ap (λ (w : ℕ). w ∷ drop (suc c) (imprints k bs col)) imprints-at

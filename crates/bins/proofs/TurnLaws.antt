@@ -29,9 +29,6 @@ use Rattle.bins.proofs.BinLaws.{bin-le, bin-yes, bin-not}
 pub plain-le : (w : Width) (a b : ℤ) → SFits w a → SFits w b → leZ (toZ w (ofZ w a)) (toZ w (ofZ w b)) ≡ leZ a b
 plain-le w a b fa fb = ap₂ leZ (toZ-ofZ w a fa) (toZ-ofZ w b fb)
 
-pub plain-lt : (w : Width) (a b : ℤ) → SFits w a → SFits w b → ltZ (toZ w (ofZ w a)) (toZ w (ofZ w b)) ≡ ltZ a b
-plain-lt w a b fa fb = ap₂ ltZ (toZ-ofZ w a fa) (toZ-ofZ w b fb)
-
 -- `1 << b` as the machine computes it
 pub one-shl : (b : ℕ) → b < 64 → 1 * 2 ^ b % 2 ^ 64 ≡ 2 ^ b
 one-shl b h = shl-exact 1 b 64 (lit< tt) (omega arith) ∙ one-mul (2 ^ b)

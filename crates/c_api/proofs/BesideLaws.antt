@@ -19,7 +19,7 @@ use Rattle.column_index.specs.declared.UnpackAnswer.{UnpackAnswer}
 use Rattle.column_index.specs.declared.UnpackAnswer.the-variants as unpacking
 use Rattle.column_index.specs.declared.SearchAnswer.{SearchAnswer}
 use Rattle.column_index.specs.declared.SearchAnswer.the-variants as searching
-use Rattle.range_filter.specs.Promise.{madeNumber, madeBeside, askedNumber, readingNumber, readingBeside}
+use Rattle.range_filter.specs.Promise.{madeNumber, madeBeside, askedNumber, askedBeside, readingNumber, readingBeside}
 use Rattle.range_filter.specs.declared.Made.{Made}
 use Rattle.range_filter.specs.declared.Made.the-variants as made
 use Rattle.range_filter.specs.declared.Asked.{Asked}
@@ -34,7 +34,7 @@ use Rattle.guarded_search.specs.declared.GuardAnswer.the-variants as guard
 use Rattle.guarded_search.specs.declared.Outcome.the-variants.{Denied, Found, Learnt, NotLearnt}
 use Rattle.guarded_search.specs.Searching.{says-learnt}
 use Rattle.guarded_search.proofs.TurnLaws.{Turned, same, more, waste, turned}
-use Rattle.answers.specs.Beside.{unpack-needed, step-number, step-beside, look-word}
+use Rattle.answers.specs.Beside.{unpack-needed, step-number, step-beside}
 use Rattle.c_api.specs.Promise.{BuildFace, PackFace, UnpackFace, StepFace, SearchFace, FreshFace, AskFace, ReadFace, GuardFace}
 
 -- ---- build
@@ -143,7 +143,7 @@ made-need made.Done ne = refl
 pub fresh-needs-4 : {levels room n k : ℕ} {w w₁ : List ℕ} → FreshFace levels room w n w₁ k → (n ≡ 4 → ⊥) → k ≡ 0
 fresh-needs-4 p ne = p .needed ∙ made-need (p .answer) (λ z. ne (p .number ∙ z))
 
-look-rest : (a : Asked) → (askedNumber a ≡ 0 → ⊥) → look-word a ≡ 0
+look-rest : (a : Asked) → (askedNumber a ≡ 0 → ⊥) → askedBeside a ≡ 0
 look-rest asked.NoFilter ne = refl
 look-rest asked.NoKey ne = refl
 look-rest asked.Order ne = refl

@@ -10,11 +10,11 @@ use Rattle.column_index.specs.declared.PackAnswer.{PackAnswer}
 use Rattle.column_index.specs.declared.UnpackAnswer.{UnpackAnswer}
 use Rattle.column_index.specs.declared.SearchAnswer.{SearchAnswer}
 use Rattle.column_index.proofs.PromiseLaws.{builds-only, builds-keeps, packs-only, packs-keeps, unpacks-only, unpacks-keeps, searches-only, searches-keeps}
-use Rattle.range_filter.specs.Promise.{madeNumber, madeBeside, askedNumber, learntNumber, arrivedNumber, departedNumber, forgotNumber, readingNumber, readingBeside}
+use Rattle.range_filter.specs.Promise.{madeNumber, madeBeside, askedNumber, askedBeside, learntNumber, arrivedNumber, departedNumber, forgotNumber, readingNumber, readingBeside}
 use Rattle.range_filter.proofs.Only.{fresh-only, fresh-refused, ask-only, learn-only, learn-refused, arrive-only, arrive-refused, depart-only, forget-only, forget-refused, read-only}
 use Rattle.guarded_search.specs.Promise.{guard-number, guard-beside}
 use Rattle.guarded_search.proofs.Only.{guards-only, guards-refused}
-use Rattle.answers.specs.Beside.{unpack-needed, look-word}
+use Rattle.answers.specs.Beside.{unpack-needed}
 use Rattle.c_api.specs.Promise.{BuildFace, PackFace, UnpackFace, StepFace, SearchFace, FreshFace, AskFace, LearnFace, ArriveFace, DepartFace, ForgetFace, ReadFace, GuardFace}
 
 -- what is said of one answer by one function is one thing
@@ -77,7 +77,7 @@ module _ {w : List ℕ} (lo hi : ℕ) where
   pub ask-face-only : {m n l₁ l₂ : ℕ} → AskFace w lo hi m l₁ → AskFace w lo hi n l₂ → (m ≡ n) × (l₁ ≡ l₂)
   ask-face-only p q =
       let e = ask-only lo hi (p .asks) (q .asks) in
-      (one askedNumber e (p .number) (q .number), one look-word e (p .look) (q .look))
+      (one askedNumber e (p .number) (q .number), one askedBeside e (p .look) (q .look))
 
   pub learn-face-only : {m n : ℕ} {w₁ w₂ : List ℕ} → LearnFace w lo hi m w₁ → LearnFace w lo hi n w₂ → (m ≡ n) × (w₁ ≡ w₂)
   learn-face-only p q =

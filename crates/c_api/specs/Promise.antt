@@ -10,7 +10,7 @@ use Rattle.column_index.specs.declared.BuildAnswer.{BuildAnswer}
 use Rattle.column_index.specs.declared.PackAnswer.{PackAnswer}
 use Rattle.column_index.specs.declared.UnpackAnswer.{UnpackAnswer}
 use Rattle.column_index.specs.declared.SearchAnswer.{SearchAnswer}
-use Rattle.range_filter.specs.Promise.{Fresh, madeNumber, madeBeside, Ask, askedNumber, Learn, learntNumber, Arrive, arrivedNumber, Depart, departedNumber, Forget, forgotNumber, Read, readingNumber, readingBeside}
+use Rattle.range_filter.specs.Promise.{Fresh, madeNumber, madeBeside, Ask, askedNumber, askedBeside, Learn, learntNumber, Arrive, arrivedNumber, Depart, departedNumber, Forget, forgotNumber, Read, readingNumber, readingBeside}
 use Rattle.range_filter.specs.declared.Made.{Made}
 use Rattle.range_filter.specs.declared.Asked.{Asked}
 use Rattle.range_filter.specs.declared.Learnt.{Learnt}
@@ -18,7 +18,7 @@ use Rattle.range_filter.specs.declared.Arrived.{Arrived}
 use Rattle.range_filter.specs.declared.Departed.{Departed}
 use Rattle.range_filter.specs.declared.Forgot.{Forgot}
 use Rattle.range_filter.specs.declared.Reading.{Reading}
-use Rattle.answers.specs.Beside.{unpack-needed, step-number, step-beside, look-word}
+use Rattle.answers.specs.Beside.{unpack-needed, step-number, step-beside}
 use Rattle.guarded_search.specs.Promise.{Guards, guard-number, guard-beside}
 use Rattle.guarded_search.specs.declared.GuardAnswer.{GuardAnswer}
 
@@ -71,7 +71,7 @@ pub record AskFace (w : List ℕ) (lo hi : ℕ) (n look′ : ℕ) : Type 0 where
   pub answer : Asked
   pub asks : Ask w lo hi answer
   pub number : n ≡ askedNumber answer
-  pub look : look′ ≡ look-word answer
+  pub look : look′ ≡ askedBeside answer
 
 pub record LearnFace (w : List ℕ) (lo hi : ℕ) (n : ℕ) (w′ : List ℕ) : Type 0 where
   pub answer : Learnt

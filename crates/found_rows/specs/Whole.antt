@@ -2,15 +2,14 @@
 use Prim.Native.Nat.{ℕ}
 use mathlib.Core.List.{List, [], _∷_}
 use lib.IntN.{ℤ}
-use lib.ListN.{length}
+use lib.ListN.{length, getD}
 use denote.Ref.{RefT, now, at-last}
 use Rattle.words.specs.Lists.{after}
-use Rattle.words.specs.Numbers.{numbered, done, low-above-high, column-too-long, no-index, space-too-short, bad-borders}
+use Rattle.words.specs.Numbers.{numbered}
 use Rattle.bins.specs.Bins.{readings}
 use Rattle.run_search.specs.Search.{search-by}
-use Rattle.column_index.specs.Promise.{search-answer, search-number}
+use Rattle.column_index.specs.Promise.{search-answer, search-number, search-beside}
 use Rattle.column_index.specs.declared.SearchAnswer.{SearchAnswer}
-use Rattle.column_index.specs.declared.SearchAnswer.the-variants as searching
 use Rattle.found_rows.specs.declared.Figures.{Figures}
 use Rattle.found_rows.specs.declared.FoundRows.{FoundRows}
 
@@ -22,14 +21,9 @@ figures a n l s w c = record { number = a; needed = n; listed = l; skipped = s; 
 abbrev pub in-order : Figures → List ℕ
 in-order f = f .number ∷ f .needed ∷ f .listed ∷ f .skipped ∷ f .whole ∷ f .compared ∷ []
 
--- an answer's figures
+-- an answer's figures: its number, and what stands beside it
 abbrev pub figures-of : SearchAnswer → Figures
-figures-of (searching.Done n s w c) = figures (numbered done) 0 n s w c
-figures-of searching.TooLong = figures (numbered column-too-long) 0 0 0 0 0
-figures-of searching.BadBorders = figures (numbered bad-borders) 0 0 0 0 0
-figures-of searching.NoIndex = figures (numbered no-index) 0 0 0 0 0
-figures-of searching.LowAboveHigh = figures (numbered low-above-high) 0 0 0 0 0
-figures-of (searching.Short n) = figures (numbered space-too-short) n 0 0 0 0
+figures-of a = let w = search-beside a in figures (numbered (search-number a)) (getD w 0 0) (getD w 1 0) (getD w 2 0) (getD w 3 0) (getD w 4 0)
 
 -- the figures of a search into a space of so many words
 unfoldable pub found : List ℤ → List ℤ → List ℕ → List ℕ → ℤ → ℤ → ℕ → Figures

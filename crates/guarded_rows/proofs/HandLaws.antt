@@ -1,5 +1,5 @@
 -- The front part that is handed back lies within the row space, and nothing else satisfies the promise. Assumes nothing.
-use mathlib.Core.Path.{_≡_, refl, sym, ap, ap₂, subst, subst₂, _∙_}
+use mathlib.Core.Path.{_≡_, sym, ap, ap₂, subst, subst₂, _∙_}
 use mathlib.Core.Bool.{Bool, true, false, cond, _||_}
 use mathlib.Core.Logic.{⊎-elim}
 use mathlib.Core.List.{List}
@@ -26,19 +26,9 @@ use Rattle.guarded_search.proofs.Only.{guards-only}
 use Rattle.guarded_rows.specs.Hands.{in-order, guard-listed, Hands}
 use Rattle.guarded_rows.specs.declared.GuardFigures.{GuardFigures}
 
-words-listed : (a : GuardAnswer) → getD (guard-words a) 3 0 ≡ guard-listed a
-words-listed (guard.Done o n s w c) = refl
-words-listed guard.NoFilter = refl
-words-listed guard.NoKey = refl
-words-listed guard.LowAboveHigh = refl
-words-listed guard.TooLong = refl
-words-listed guard.BadBorders = refl
-words-listed guard.NoIndex = refl
-words-listed (guard.Short n) = refl
-
 -- an answer's figures say how many rows it lists
 pub figures-listed : (f : GuardFigures) (a : GuardAnswer) → in-order f ≡ guard-words a → f .listed ≡ guard-listed a
-figures-listed f a e = ap (λ (l : List ℕ). getD l 3 0) e ∙ words-listed a
+figures-listed f a e = ap (λ (l : List ℕ). getD l 3 0) e
 
 room-within : (o : Outcome) (ids rows : List ℕ) (s w c : ℕ) (t : Bool) → let r = cond t (guard.Short (length ids)) (guard.Done o (length ids) s w c) in guard-listed r ≤ length (after (guard-number r) ids rows)
 room-within o ids rows s w c true = omega arith

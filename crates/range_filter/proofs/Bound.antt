@@ -4,14 +4,13 @@ use mathlib.Core.Bool.{Bool, true, false, _||_}
 use mathlib.Core.List.{List, [], _∷_}
 use lib.Dec.{ltb, eqb}
 use borrow.Author.Tests.{ltb-true, ltb-false, eq-eqb, ne-eqb, eqb-true, eqb-false}
-use native.Mathlib.Decide.{decLt, decLe}
-use mathlib.Core.Logic.{_⊎_, inl, inr, ⊎-elim}
+use native.Mathlib.Decide.{decLt}
+use mathlib.Core.Logic.{_⊎_, ⊎-elim}
 use Prim.Native.Nat.{ℕ, zero, suc, _+_, _-_, _*_, _^_, _≤_, _<_}
 use native.Mathlib.Nat.{two-pow-succ, mul-add, suc-mul, add-zero}
 use native.Mathlib.Numerals.{add-one}
 use native.Mathlib.Omega.{arith}
-use Rattle.halving_tree.specs.Tree.{shift, treeOf, splits, paint}
-use Rattle.halving_tree.proofs.PaintLaws.{paint-in, paint-out}
+use Rattle.halving_tree.specs.Tree.{shift, treeOf, splits}
 use Rattle.halving_tree.specs.Encode.{leafWord}
 use Rattle.words.specs.Lists.{has}
 use Rattle.range_filter.specs.Beside.{Beside, different}
@@ -142,21 +141,3 @@ count-different k (x ∷ keys) = go (count-different k keys) (ltb x (2 ^ k)) ref
 -- D that changes only beside some keys has at most k splits for each of the different ones
 pub bound-different : (k : ℕ) (D : ℕ → Bool) (keys : List ℕ) → Beside k D (λ x. has x keys) → splits (treeOf k D) ≤ k * different (2 ^ k) keys
 bound-different k D keys h = rw (count-different k keys) at (bound k D (λ x. has x keys) h)
-
--- a set of no keys changes nowhere
-pub fresh-beside : (k : ℕ) (K : ℕ → Bool) → Beside k (λ x. false) K
-fresh-beside k K x lt n = absurd (n refl)
-
--- a range put in, at whose ends stands a key of K or the end of all keys, changes D only beside keys of K
-pub learnt-beside : (k : ℕ) (D K : ℕ → Bool) (lo hi : ℕ) → Beside k D K → ((y : ℕ) → y + 1 ≡ lo → K y ≡ true) → (hi + 1 < 2 ^ k → K (hi + 1) ≡ true) → Beside k (paint true lo hi D) K
-learnt-beside k D K lo hi h low high x lt n = go (decLe lo x) (decLe (x + 1) hi) (decLe lo (x + 1)) (decLe x hi)
-  where
-    go : Dec (lo ≤ x) → Dec (x + 1 ≤ hi) → Dec (lo ≤ x + 1) → Dec (x ≤ hi) → (K x ≡ true) ⊎ (K (x + 1) ≡ true)
-    go (yes a) (yes b) c d = absurd (n (paint-in true lo hi D x a (omega arith) ∙ sym (paint-in true lo hi D (x + 1) (omega arith) b)))
-    go (yes a) (no b) c (yes d) =
-        let e : x ≡ hi = omega arith in
-        inr (ap (λ (i : ℕ). K (i + 1)) e ∙ high (omega arith))
-    go (yes a) (no b) c (no d) = h x lt (λ e. n (paint-out true lo hi D x (λ r. d (r .1)) ∙ e ∙ sym (paint-out true lo hi D (x + 1) (λ r. b (r .1)))))
-    go (no a) (yes b) (yes c) d = inl (low x (omega arith))
-    go (no a) (no b) (yes c) d = h x lt (λ e. n (paint-out true lo hi D x (λ r. a (r .0)) ∙ e ∙ sym (paint-out true lo hi D (x + 1) (λ r. b (r .1)))))
-    go (no a) b (no c) d = h x lt (λ e. n (paint-out true lo hi D x (λ r. a (r .0)) ∙ e ∙ sym (paint-out true lo hi D (x + 1) (λ r. c (r .0)))))

@@ -80,12 +80,13 @@ askedNumber asked.Order = numbered low-above-high
 askedNumber asked.Look = numbered done
 askedNumber asked.Denied = numbered done
 
+-- beside the number: 1 for look, 0 for denied and beside any other number
 abbrev pub askedBeside : Asked → ℕ
 askedBeside asked.NoFilter = 0
 askedBeside asked.NoKey = 0
 askedBeside asked.Order = 0
-askedBeside asked.Look = 0
-askedBeside asked.Denied = 1
+askedBeside asked.Look = 1
+askedBeside asked.Denied = 0
 
 abbrev pub askAnswer : ℕ → ℕ → Memory → Asked
 askAnswer lo hi m = ofRange asked.NoKey asked.Order lo hi m (cond (allIn (m .set) lo hi) asked.Denied asked.Look)
@@ -101,10 +102,6 @@ learntNumber taught.Order = numbered low-above-high
 learntNumber taught.NoRoom = numbered no-room
 learntNumber taught.Done = numbered done
 
--- nothing stands beside it
-abbrev pub learntBeside : Learnt → ℕ
-learntBeside r = 0
-
 abbrev pub learnAnswer : ℕ → ℕ → Memory → Learnt
 learnAnswer lo hi m = ofRange taught.NoKey taught.Order lo hi m (cond (tooMany (learnt m lo hi)) taught.NoRoom taught.Done)
 
@@ -116,10 +113,6 @@ abbrev pub arrivedNumber : Arrived → ℕ
 arrivedNumber came.NoFilter = numbered no-filter
 arrivedNumber came.NoKey = numbered no-key
 arrivedNumber came.Done = numbered done
-
--- nothing stands beside it
-abbrev pub arrivedBeside : Arrived → ℕ
-arrivedBeside r = 0
 
 abbrev pub arriveAnswer : ℕ → Memory → Arrived
 arriveAnswer x m = ofKey came.NoKey x m came.Done
@@ -133,10 +126,6 @@ departedNumber departed.NoFilter = numbered no-filter
 departedNumber departed.NoKey = numbered no-key
 departedNumber departed.Done = numbered done
 
--- nothing stands beside it
-abbrev pub departedBeside : Departed → ℕ
-departedBeside r = 0
-
 abbrev pub departAnswer : ℕ → Memory → Departed
 departAnswer x m = ofKey departed.NoKey x m departed.Done
 
@@ -148,10 +137,6 @@ abbrev pub forgotNumber : Forgot → ℕ
 forgotNumber forgot.NoFilter = numbered no-filter
 forgotNumber forgot.Nothing = numbered nothing-to-forget
 forgotNumber forgot.Done = numbered done
-
--- nothing stands beside it
-abbrev pub forgotBeside : Forgot → ℕ
-forgotBeside r = 0
 
 abbrev pub forgetAnswer : Memory → Forgot
 forgetAnswer m = cond (single (treeIn m)) forgot.Nothing forgot.Done

@@ -142,9 +142,6 @@ take-filled xs l = take-append-seam xs (drop (length xs) l)
 pub sets-filled {ℓ} : {A : Type ℓ} (xs l : List A) → length xs ≤ length l → sets l 0 xs ≡ filled xs l
 sets-filled {A = A} xs l h = sets-eq xs l 0 (omega arith) ∙ ap (λ (n : ℕ). xs ++ drop n l) (zero-add (length xs))
 
-pub length-filled {ℓ} : {A : Type ℓ} (xs l : List A) → length xs ≤ length l → length (filled xs l) ≡ length l
-length-filled xs l h = length-append xs (drop (length xs) l) ∙ omega (arith, length-drop (length xs) l)
-
 -- ---- pieces, one by one
 
 -- the first piece of a list that has an element, and the pieces of what is left
