@@ -3,7 +3,7 @@ use Prim.Native.Nat.{ℕ, suc, _+_, _-_, _*_, _/_, _≤_, _<_}
 use mathlib.Core.Path.{_≡_, refl, sym, _∙_, ap}
 use mathlib.Core.List.{List, [], _∷_, _++_, map, append-nil}
 use mathlib.Core.Bool.{Bool, true, false, cond, and-eq-true-iff}
-use native.Mathlib.Nat.{le-of-suc-le-suc, suc-mul, zero-add, div-lt-iff-lt-mul, le-div-iff-mul-le}
+use native.Mathlib.Nat.{le-of-suc-le-suc, suc-mul, mul-comm, zero-add, div-lt-iff-lt-mul, le-div-iff-mul-le}
 use native.Mathlib.Numerals.{add-one}
 use native.Mathlib.Omega.{arith}
 use lib.Dec.{leb}
@@ -14,8 +14,8 @@ use lib.Signed.{leZ}
 use borrow.Author.Tests.{leb-true, leb-false, le-leb, lt-leb}
 use Rattle.words.specs.Lists.{from, ceil}
 use Rattle.words.proofs.Order.{leZ-refl}
-use Rattle.words.proofs.ListLaws.{length-from}
-use Rattle.bins.specs.Bins.{Kind, stride, sampled, sample, sort, keep, once, eqZ, spread, borders-of, borders-sorted}
+use Rattle.words.proofs.ListLaws.{length-from, ceil-reach}
+use Rattle.bins.specs.Bins.{Kind, most-rows, stride, sampled, sample, sort, keep, once, eqZ, spread, borders-of, borders-sorted}
 use Rattle.bins.proofs.BorderLaws.{both, once-length, spread-length}
 use Rattle.bins.proofs.LineLaws.{from-place}
 use Rattle.bins.proofs.SortLaws.{leZ-same, sort-length, write-next}
@@ -28,6 +28,9 @@ lt-ceil n s i p h = le-div-iff-mul-le p .1 (omega (arith, suc-mul i s))
 pub ceil-le : (n s i : ℕ) → 0 < s → n ≤ i * s → ceil n s ≤ i
 ceil-le n s i p h = le-of-suc-le-suc (div-lt-iff-lt-mul p .1 (omega (arith, suc-mul i s)))
 
+pub ceil-mono : (n m s : ℕ) → 0 < s → n ≤ m → ceil n s ≤ ceil m s
+ceil-mono n m s p h = ceil-le n s (ceil m s) p (omega (arith, ceil-reach m s (ceil m s) p (omega arith), mul-comm s (ceil m s)))
+
 -- ---- the stride and the sample
 
 pub stride-pos : (n : ℕ) → 0 < stride n
@@ -38,7 +41,7 @@ stride-pos n = go (leb n 2048) refl
     go false t = omega (arith, leb-false n 2048 t)
 
 -- a stride is no longer than the column, where the column has a row
-pub stride-le : (n : ℕ) → n ≤ 16777216 → stride n ≤ 8192
+pub stride-le : (n : ℕ) → n ≤ most-rows → stride n ≤ 8192
 stride-le n h = go (leb n 2048) refl
   where
     go : (t : Bool) → leb n 2048 ≡ t → cond t 1 (ceil n 2048) ≤ 8192

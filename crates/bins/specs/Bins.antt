@@ -19,6 +19,18 @@ pub record Kind : Type 0 where
 abbrev pub readings : Kind
 readings = record { per = 16; least = negsuc (2 ^ 31 - 1); greatest = pos (2 ^ 31 - 1) }
 
+-- totals: 64 bits, 8 rows to a line
+abbrev pub totals : Kind
+totals = record { per = 8; least = negsuc (2 ^ 63 - 1); greatest = pos (2 ^ 63 - 1) }
+
+-- the most rows of a column
+abbrev pub most-rows : ℕ
+most-rows = 16777216
+
+-- and the most lines of a list
+abbrev pub most-lines : Kind → ℕ
+most-lines k = ceil most-rows (k .per)
+
 -- the lines of a column; the last may be shorter and counts as a line
 abbrev pub lines : Kind → List ℤ → List (List ℤ)
 lines k col = pieces (k .per) col

@@ -5,6 +5,7 @@ use Prim.Native.Nat.{ℕ}
 use lib.IntN.{ℤ}
 use Rattle.words.specs.Numbers.{numbered}
 use Rattle.dictionary.specs.Position.{position, step}
+use Rattle.bins.specs.Bins.{readings}
 use Rattle.column_index.specs.Promise.{Builds, build-number, build-beside, Packs, pack-number, pack-beside, Unpacks, unpack-number, Searches, search-number, search-beside}
 use Rattle.column_index.specs.declared.BuildAnswer.{BuildAnswer}
 use Rattle.column_index.specs.declared.PackAnswer.{PackAnswer}
@@ -27,21 +28,21 @@ use Rattle.guarded_search.specs.declared.GuardAnswer.{GuardAnswer}
 -- build; beside the number: needed, borders, imprints, dictionary
 pub record BuildFace (col bs : List ℤ) (is ds : List ℕ) (n : ℕ) (bs′ : List ℤ) (is′ ds′ out′ : List ℕ) : Type 0 where
   pub answer : BuildAnswer
-  pub builds : Builds col bs is ds answer bs′ is′ ds′
+  pub builds : Builds readings col bs is ds answer bs′ is′ ds′
   pub number : n ≡ numbered (build-number answer)
   pub words : out′ ≡ build-beside answer
 
 -- pack; beside the number: needed, imprints, dictionary
 pub record PackFace (ws : List ℕ) (bs : List ℤ) (is ds : List ℕ) (n : ℕ) (is′ ds′ out′ : List ℕ) : Type 0 where
   pub answer : PackAnswer
-  pub packs : Packs ws bs is ds answer is′ ds′
+  pub packs : Packs readings ws bs is ds answer is′ ds′
   pub number : n ≡ numbered (pack-number answer)
   pub words : out′ ≡ pack-beside answer
 
 -- unpack; beside the number: the length needed
 pub record UnpackFace (bs : List ℤ) (is ds : List ℕ) (lines : ℕ) (ws : List ℕ) (n : ℕ) (ws′ : List ℕ) (needed′ : ℕ) : Type 0 where
   pub answer : UnpackAnswer
-  pub unpacks : Unpacks bs is ds lines ws answer ws′
+  pub unpacks : Unpacks readings bs is ds lines ws answer ws′
   pub number : n ≡ numbered (unpack-number answer)
   pub needed : needed′ ≡ unpack-needed answer
 
@@ -53,7 +54,7 @@ pub record StepFace (ds is : List ℕ) (entry place at : ℕ) (n : ℕ) (out′ 
 -- range search; beside the number: needed, rows, skipped, whole, compared
 pub record SearchFace (col bs : List ℤ) (is ds : List ℕ) (low high : ℤ) (rows : List ℕ) (n : ℕ) (rows′ out′ : List ℕ) : Type 0 where
   pub answer : SearchAnswer
-  pub searches : Searches col bs is ds low high rows answer rows′
+  pub searches : Searches readings col bs is ds low high rows answer rows′
   pub number : n ≡ numbered (search-number answer)
   pub words : out′ ≡ search-beside answer
 

@@ -15,7 +15,7 @@ pub extern "C" fn mgz_build(
 ) -> u32
     ensures { λ r. ⌜ BuildFace (now (column .entry)) (now (borders .entry)) (now (imprints .entry)) (now (dictionary .entry)) r (now (borders .exit)) (now (imprints .exit)) (now (dictionary .exit)) (now (out .exit)) ⌝ }
 {
-    let answer = column_index::made::build(column, borders, imprints, dictionary);
+    let answer = reading_index::made::build(column, borders, imprints, dictionary);
     answers::index::build_words(answer, out);
     answers::index::build_number(answer)
 }
@@ -33,7 +33,7 @@ pub extern "C" fn mgz_pack(
 ) -> u32
     ensures { λ r. ⌜ PackFace (now (list .entry)) (now (borders .entry)) (now (imprints .entry)) (now (dictionary .entry)) r (now (imprints .exit)) (now (dictionary .exit)) (now (out .exit)) ⌝ }
 {
-    let answer = column_index::made::pack(list, borders, imprints, dictionary);
+    let answer = reading_index::made::pack(list, borders, imprints, dictionary);
     answers::index::pack_words(answer, out);
     answers::index::pack_number(answer)
 }
@@ -52,7 +52,7 @@ pub extern "C" fn mgz_unpack(
 ) -> u32
     ensures { λ r. ⌜ UnpackFace (now (borders .entry)) (now (imprints .entry)) (now (dictionary .entry)) lines (now (list .entry)) r (now (list .exit)) (now (needed .exit)) ⌝ }
 {
-    let answer = column_index::made::unpack(borders, imprints, dictionary, lines as usize, list);
+    let answer = reading_index::made::unpack(borders, imprints, dictionary, lines as usize, list);
     *needed = answers::index::unpack_needed(answer);
     answers::index::unpack_number(answer)
 }
@@ -97,7 +97,7 @@ pub extern "C" fn mgz_search(
 ) -> u32
     ensures { λ r. ⌜ SearchFace (now (column .entry)) (now (borders .entry)) (now (imprints .entry)) (now (dictionary .entry)) low high (now (ids .entry)) r (now (ids .exit)) (now (out .exit)) ⌝ }
 {
-    let answer = column_index::search(column, borders, imprints, dictionary, low, high, ids);
+    let answer = reading_index::search(column, borders, imprints, dictionary, low, high, ids);
     let f = found_rows::figures_of(answer);
     answers::beside::put5(
         out,

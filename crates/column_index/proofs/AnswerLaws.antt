@@ -11,7 +11,7 @@ use lib.IntN.{ℤ}
 use borrow.Author.Tests.{lt-ltb, le-ltb, leb-true}
 use Rattle.words.specs.Lists.{every}
 use Rattle.words.proofs.ListLaws.{sets-filled}
-use Rattle.bins.specs.Bins.{readings, borders, rising, good-borders, bins}
+use Rattle.bins.specs.Bins.{Kind, most-rows, most-lines, borders, rising, good-borders, bins}
 use Rattle.bins.proofs.BorderLaws.{borders-count}
 use Rattle.dictionary.specs.Dictionary.{pack, unpack, largest, fit, accepted}
 use Rattle.dictionary.proofs.IndexLaws.{accepted-lines}
@@ -23,72 +23,72 @@ use Rattle.column_index.specs.declared.UnpackAnswer.the-variants as unpa
 
 -- ---- pack
 
-module _ (ws : List ℕ) (bs : List ℤ) (is ds : List ℕ) where
-  pub pack-too-long : 1048576 < length ws → Packs ws bs is ds packing.TooLong is ds
+module _ (k : Kind) (ws : List ℕ) (bs : List ℤ) (is ds : List ℕ) where
+  pub pack-too-long : most-lines k < length ws → Packs k ws bs is ds packing.TooLong is ds
   unfolding pack-answer
-  pack-too-long h = record { answers = rw (lt-ltb 1048576 (length ws) h); imprints-after = refl; dictionary-after = refl }
+  pack-too-long h = record { answers = rw (lt-ltb (most-lines k) (length ws) h); imprints-after = refl; dictionary-after = refl }
 
-  module _ (short : length ws ≤ 1048576) where
-    pub pack-bad-borders : good-borders bs ≡ false → Packs ws bs is ds packing.BadBorders is ds
+  module _ (short : length ws ≤ most-lines k) where
+    pub pack-bad-borders : good-borders bs ≡ false → Packs k ws bs is ds packing.BadBorders is ds
     unfolding pack-answer
-    pack-bad-borders b = record { answers = rw (le-ltb 1048576 (length ws) short, b); imprints-after = refl; dictionary-after = refl }
+    pack-bad-borders b = record { answers = rw (le-ltb (most-lines k) (length ws) short, b); imprints-after = refl; dictionary-after = refl }
 
     module _ (good : good-borders bs ≡ true) where
-      pub pack-unfit : every (fit (bins bs)) ws ≡ false → Packs ws bs is ds packing.Unfit is ds
+      pub pack-unfit : every (fit (bins bs)) ws ≡ false → Packs k ws bs is ds packing.Unfit is ds
       unfolding pack-answer
-      pack-unfit f = record { answers = rw (le-ltb 1048576 (length ws) short, good, f); imprints-after = refl; dictionary-after = refl }
+      pack-unfit f = record { answers = rw (le-ltb (most-lines k) (length ws) short, good, f); imprints-after = refl; dictionary-after = refl }
 
       module _ (fits : every (fit (bins bs)) ws ≡ true) (i : ℕ) (of-i : i ≡ length (pack largest ws .imps)) where
-        pub pack-imprints-short : length is < i → Packs ws bs is ds (packing.ImprintsShort i) is ds
+        pub pack-imprints-short : length is < i → Packs k ws bs is ds (packing.ImprintsShort i) is ds
         unfolding pack-answer
-        pack-imprints-short h = record { answers = rw (le-ltb 1048576 (length ws) short, good, fits, ← of-i, lt-ltb (length is) i h); imprints-after = refl; dictionary-after = refl }
+        pack-imprints-short h = record { answers = rw (le-ltb (most-lines k) (length ws) short, good, fits, ← of-i, lt-ltb (length is) i h); imprints-after = refl; dictionary-after = refl }
 
         module _ (room-i : i ≤ length is) (d : ℕ) (of-d : d ≡ length (pack largest ws .dict)) where
-          pub pack-dictionary-short : length ds < d → Packs ws bs is ds (packing.DictionaryShort d) is ds
+          pub pack-dictionary-short : length ds < d → Packs k ws bs is ds (packing.DictionaryShort d) is ds
           unfolding pack-answer
           pack-dictionary-short h =
               record {
-                answers = rw (le-ltb 1048576 (length ws) short, good, fits, ← of-i, le-ltb (length is) i room-i, ← of-d, lt-ltb (length ds) d h);
+                answers = rw (le-ltb (most-lines k) (length ws) short, good, fits, ← of-i, le-ltb (length is) i room-i, ← of-d, lt-ltb (length ds) d h);
                 imprints-after = refl;
                 dictionary-after = refl;
               }
 
-          pub pack-done : d ≤ length ds → (is′ ds′ : List ℕ) → is′ ≡ sets is 0 (pack largest ws .imps) → ds′ ≡ sets ds 0 (pack largest ws .dict) → Packs ws bs is ds (packing.Done i d) is′ ds′
+          pub pack-done : d ≤ length ds → (is′ ds′ : List ℕ) → is′ ≡ sets is 0 (pack largest ws .imps) → ds′ ≡ sets ds 0 (pack largest ws .dict) → Packs k ws bs is ds (packing.Done i d) is′ ds′
           unfolding pack-answer
           pack-done room-d is′ ds′ ei ed =
               record {
-                answers = rw (le-ltb 1048576 (length ws) short, good, fits, ← of-i, le-ltb (length is) i room-i, ← of-d, le-ltb (length ds) d room-d);
+                answers = rw (le-ltb (most-lines k) (length ws) short, good, fits, ← of-i, le-ltb (length is) i room-i, ← of-d, le-ltb (length ds) d room-d);
                 imprints-after = ei ∙ sets-filled (pack largest ws .imps) is (omega (arith, of-i));
                 dictionary-after = ed ∙ sets-filled (pack largest ws .dict) ds (omega (arith, of-d));
               }
 
 -- ---- unpack
 
-module _ (bs : List ℤ) (is ds : List ℕ) (lines : ℕ) (ws : List ℕ) where
-  pub unpack-too-long : 1048576 < lines → Unpacks bs is ds lines ws unpacking.TooLong ws
+module _ (k : Kind) (bs : List ℤ) (is ds : List ℕ) (lines : ℕ) (ws : List ℕ) where
+  pub unpack-too-long : most-lines k < lines → Unpacks k bs is ds lines ws unpacking.TooLong ws
   unfolding unpack-answer
-  unpack-too-long h = record { answers = rw (lt-ltb 1048576 lines h); list-after = refl }
+  unpack-too-long h = record { answers = rw (lt-ltb (most-lines k) lines h); list-after = refl }
 
-  module _ (short : lines ≤ 1048576) where
-    pub unpack-bad-borders : good-borders bs ≡ false → Unpacks bs is ds lines ws unpacking.BadBorders ws
+  module _ (short : lines ≤ most-lines k) where
+    pub unpack-bad-borders : good-borders bs ≡ false → Unpacks k bs is ds lines ws unpacking.BadBorders ws
     unfolding unpack-answer
-    unpack-bad-borders b = record { answers = rw (le-ltb 1048576 lines short, b); list-after = refl }
+    unpack-bad-borders b = record { answers = rw (le-ltb (most-lines k) lines short, b); list-after = refl }
 
     module _ (good : good-borders bs ≡ true) where
-      pub unpack-no-index : accepted largest (bins bs) lines ds is ≡ false → Unpacks bs is ds lines ws unpacking.NoIndex ws
+      pub unpack-no-index : accepted largest (bins bs) lines ds is ≡ false → Unpacks k bs is ds lines ws unpacking.NoIndex ws
       unfolding unpack-answer
-      unpack-no-index a = record { answers = rw (le-ltb 1048576 lines short, good, a); list-after = refl }
+      unpack-no-index a = record { answers = rw (le-ltb (most-lines k) lines short, good, a); list-after = refl }
 
       module _ (index : accepted largest (bins bs) lines ds is ≡ true) where
-        pub unpack-short : length ws < lines → Unpacks bs is ds lines ws (unpacking.Short lines) ws
+        pub unpack-short : length ws < lines → Unpacks k bs is ds lines ws (unpacking.Short lines) ws
         unfolding unpack-answer
-        unpack-short h = record { answers = rw (le-ltb 1048576 lines short, good, index, lt-ltb (length ws) lines h); list-after = refl }
+        unpack-short h = record { answers = rw (le-ltb (most-lines k) lines short, good, index, lt-ltb (length ws) lines h); list-after = refl }
 
-        pub unpack-done : lines ≤ length ws → (ws′ : List ℕ) → ws′ ≡ sets ws 0 (unpack ds is) → Unpacks bs is ds lines ws (unpacking.Done lines) ws′
+        pub unpack-done : lines ≤ length ws → (ws′ : List ℕ) → ws′ ≡ sets ws 0 (unpack ds is) → Unpacks k bs is ds lines ws (unpacking.Done lines) ws′
         unfolding unpack-answer
         unpack-done room ws′ e =
             record {
-              answers = rw (le-ltb 1048576 lines short, good, index, le-ltb (length ws) lines room);
+              answers = rw (le-ltb (most-lines k) lines short, good, index, le-ltb (length ws) lines room);
               list-after = e ∙ sets-filled (unpack ds is) ws (omega (arith, lines-are));
             }
           where
@@ -97,73 +97,73 @@ module _ (bs : List ℤ) (is ds : List ℕ) (lines : ℕ) (ws : List ℕ) where
 
 -- ---- build: `found` are the column's borders
 
-module _ (col bs : List ℤ) (is ds : List ℕ) where
-  pub build-too-long : 16777216 < length col → Builds col bs is ds build.TooLong bs is ds
+module _ (k : Kind) (col bs : List ℤ) (is ds : List ℕ) where
+  pub build-too-long : most-rows < length col → Builds k col bs is ds build.TooLong bs is ds
   unfolding build-answer
-  build-too-long h = record { answers = rw (lt-ltb 16777216 (length col) h); borders-after = refl; imprints-after = refl; dictionary-after = refl }
+  build-too-long h = record { answers = rw (lt-ltb most-rows (length col) h); borders-after = refl; imprints-after = refl; dictionary-after = refl }
 
-  module _ (short : length col ≤ 16777216) (b : ℕ) (of-b : b ≡ length (borders readings col)) where
-    pub build-borders-short : length bs < b → Builds col bs is ds (build.BordersShort b) bs is ds
+  module _ (short : length col ≤ most-rows) (b : ℕ) (of-b : b ≡ length (borders k col)) where
+    pub build-borders-short : length bs < b → Builds k col bs is ds (build.BordersShort b) bs is ds
     unfolding build-answer
-    build-borders-short h = record { answers = rw (le-ltb 16777216 (length col) short, ← of-b, lt-ltb (length bs) b h); borders-after = refl; imprints-after = refl; dictionary-after = refl }
+    build-borders-short h = record { answers = rw (le-ltb most-rows (length col) short, ← of-b, lt-ltb (length bs) b h); borders-after = refl; imprints-after = refl; dictionary-after = refl }
 
-    module _ (room-b : b ≤ length bs) (i : ℕ) (of-i : i ≡ length (built readings col .imps)) where
-      pub build-imprints-short : length is < i → Builds col bs is ds (build.ImprintsShort i) bs is ds
+    module _ (room-b : b ≤ length bs) (i : ℕ) (of-i : i ≡ length (built k col .imps)) where
+      pub build-imprints-short : length is < i → Builds k col bs is ds (build.ImprintsShort i) bs is ds
       unfolding build-answer
       build-imprints-short h =
           record {
-            answers = rw (le-ltb 16777216 (length col) short, ← of-b, le-ltb (length bs) b room-b, ← of-i, lt-ltb (length is) i h);
+            answers = rw (le-ltb most-rows (length col) short, ← of-b, le-ltb (length bs) b room-b, ← of-i, lt-ltb (length is) i h);
             borders-after = refl;
             imprints-after = refl;
             dictionary-after = refl;
           }
 
-      module _ (room-i : i ≤ length is) (d : ℕ) (of-d : d ≡ length (built readings col .dict)) where
-        pub build-dictionary-short : length ds < d → Builds col bs is ds (build.DictionaryShort d) bs is ds
+      module _ (room-i : i ≤ length is) (d : ℕ) (of-d : d ≡ length (built k col .dict)) where
+        pub build-dictionary-short : length ds < d → Builds k col bs is ds (build.DictionaryShort d) bs is ds
         unfolding build-answer
         build-dictionary-short h =
             record {
-              answers = rw (le-ltb 16777216 (length col) short, ← of-b, le-ltb (length bs) b room-b, ← of-i, le-ltb (length is) i room-i, ← of-d, lt-ltb (length ds) d h);
+              answers = rw (le-ltb most-rows (length col) short, ← of-b, le-ltb (length bs) b room-b, ← of-i, le-ltb (length is) i room-i, ← of-d, lt-ltb (length ds) d h);
               borders-after = refl;
               imprints-after = refl;
               dictionary-after = refl;
             }
 
-        pub build-done : d ≤ length ds → (bs′ : List ℤ) (is′ ds′ : List ℕ) → bs′ ≡ sets bs 0 (borders readings col) → is′ ≡ sets is 0 (built readings col .imps) → ds′ ≡ sets ds 0 (built readings col .dict) → Builds col bs is ds (build.Done b i d) bs′ is′ ds′
+        pub build-done : d ≤ length ds → (bs′ : List ℤ) (is′ ds′ : List ℕ) → bs′ ≡ sets bs 0 (borders k col) → is′ ≡ sets is 0 (built k col .imps) → ds′ ≡ sets ds 0 (built k col .dict) → Builds k col bs is ds (build.Done b i d) bs′ is′ ds′
         unfolding build-answer
         build-done room-d bs′ is′ ds′ eb ei ed =
             record {
-              answers = rw (le-ltb 16777216 (length col) short, ← of-b, le-ltb (length bs) b room-b, ← of-i, le-ltb (length is) i room-i, ← of-d, le-ltb (length ds) d room-d);
-              borders-after = eb ∙ sets-filled (borders readings col) bs (omega (arith, of-b));
-              imprints-after = ei ∙ sets-filled (built readings col .imps) is (omega (arith, of-i));
-              dictionary-after = ed ∙ sets-filled (built readings col .dict) ds (omega (arith, of-d));
+              answers = rw (le-ltb most-rows (length col) short, ← of-b, le-ltb (length bs) b room-b, ← of-i, le-ltb (length is) i room-i, ← of-d, le-ltb (length ds) d room-d);
+              borders-after = eb ∙ sets-filled (borders k col) bs (omega (arith, of-b));
+              imprints-after = ei ∙ sets-filled (built k col .imps) is (omega (arith, of-i));
+              dictionary-after = ed ∙ sets-filled (built k col .dict) ds (omega (arith, of-d));
             }
 
   -- the same where the column's borders are `found`
-  module _ (short : length col ≤ 16777216) (found : List ℤ) (of-found : found ≡ borders readings col) where
+  module _ (short : length col ≤ most-rows) (found : List ℤ) (of-found : found ≡ borders k col) where
     pub found-few : length found ≤ 63
-    found-few = omega (arith, ap length of-found, borders-count readings col)
+    found-few = omega (arith, ap length of-found, borders-count k col)
 
-    module _ (room-b : length found ≤ length bs) (i : ℕ) (of-i : i ≡ length (packed-with readings found col .imps)) where
-      with-i : i ≡ length (built readings col .imps)
-      with-i = of-i ∙ ap (λ (f : List ℤ). length (packed-with readings f col .imps)) of-found
+    module _ (room-b : length found ≤ length bs) (i : ℕ) (of-i : i ≡ length (packed-with k found col .imps)) where
+      with-i : i ≡ length (built k col .imps)
+      with-i = of-i ∙ ap (λ (f : List ℤ). length (packed-with k f col .imps)) of-found
 
-      pub found-imprints-short : length is < i → Builds col bs is ds (build.ImprintsShort i) bs is ds
+      pub found-imprints-short : length is < i → Builds k col bs is ds (build.ImprintsShort i) bs is ds
       found-imprints-short h = build-imprints-short short (length found) (ap length of-found) room-b i with-i h
 
-      module _ (room-i : i ≤ length is) (d : ℕ) (of-d : d ≡ length (packed-with readings found col .dict)) where
-        with-d : d ≡ length (built readings col .dict)
-        with-d = of-d ∙ ap (λ (f : List ℤ). length (packed-with readings f col .dict)) of-found
+      module _ (room-i : i ≤ length is) (d : ℕ) (of-d : d ≡ length (packed-with k found col .dict)) where
+        with-d : d ≡ length (built k col .dict)
+        with-d = of-d ∙ ap (λ (f : List ℤ). length (packed-with k f col .dict)) of-found
 
-        pub found-dictionary-short : length ds < d → Builds col bs is ds (build.DictionaryShort d) bs is ds
+        pub found-dictionary-short : length ds < d → Builds k col bs is ds (build.DictionaryShort d) bs is ds
         found-dictionary-short h = build-dictionary-short short (length found) (ap length of-found) room-b i with-i room-i d with-d h
 
-        pub found-done : d ≤ length ds → (bs′ : List ℤ) (is′ ds′ : List ℕ) → bs′ ≡ sets bs 0 found → is′ ≡ sets is 0 (packed-with readings found col .imps) → ds′ ≡ sets ds 0 (packed-with readings found col .dict) → Builds col bs is ds (build.Done (length found) i d) bs′ is′ ds′
+        pub found-done : d ≤ length ds → (bs′ : List ℤ) (is′ ds′ : List ℕ) → bs′ ≡ sets bs 0 found → is′ ≡ sets is 0 (packed-with k found col .imps) → ds′ ≡ sets ds 0 (packed-with k found col .dict) → Builds k col bs is ds (build.Done (length found) i d) bs′ is′ ds′
         found-done room-d bs′ is′ ds′ eb ei ed =
             build-done short (length found) (ap length of-found) room-b i with-i room-i d with-d room-d bs′ is′ ds′
             (eb ∙ ap (sets bs 0) of-found)
-            (ei ∙ ap (λ (f : List ℤ). sets is 0 (packed-with readings f col .imps)) of-found)
-            (ed ∙ ap (λ (f : List ℤ). sets ds 0 (packed-with readings f col .dict)) of-found)
+            (ei ∙ ap (λ (f : List ℤ). sets is 0 (packed-with k f col .imps)) of-found)
+            (ed ∙ ap (λ (f : List ℤ). sets ds 0 (packed-with k f col .dict)) of-found)
 
 -- a list whose front of n elements has n elements is as long as that
 pub front-fits {ℓ} : {A : Type ℓ} (l xs : List A) (n : ℕ) → n ≡ length xs → take n l ≡ xs → n ≤ length l

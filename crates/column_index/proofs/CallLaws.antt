@@ -14,7 +14,7 @@ use borrow.Author.Tests.{leb-true, ltb-true, ltb-false, lt-ltb, le-ltb}
 use Rattle.words.specs.Lists.{joined, every, after}
 use Rattle.words.specs.Numbers.{numbered}
 use Rattle.words.proofs.BitOps.{share-and, outside-and}
-use Rattle.bins.specs.Bins.{Kind, readings, bins, good-borders, rising}
+use Rattle.bins.specs.Bins.{Kind, most-rows, most-lines, bins, good-borders}
 use Rattle.bins.specs.Masks.{fate}
 use Rattle.bins.specs.declared.Fate.{Fate}
 use Rattle.bins.specs.declared.Fate.the-variants.{Skipped, Whole, Compared}
@@ -24,12 +24,14 @@ use Rattle.dictionary.proofs.PositionLaws.{Sized, entries-sized}
 use Rattle.column_index.specs.Index.{line-count, is-index-for}
 use Rattle.run_search.specs.Search.{Answer, with-line, search-by}
 use Rattle.run_search.specs.Runs.{Asked, asking, values, through, Readable}
-use Rattle.column_index.specs.Promise.{most-rows, checked-answer, search-answer, search-room, search-number, Searches}
+use Rattle.column_index.specs.Promise.{checked-answer, search-answer, search-room, search-number, Searches}
 use Rattle.column_index.specs.declared.IndexCheck.{IndexCheck}
 use Rattle.column_index.specs.declared.IndexCheck.the-variants as checking
 use Rattle.column_index.specs.declared.SearchAnswer.{SearchAnswer}
 use Rattle.column_index.specs.declared.SearchAnswer.the-variants as searching
 use Rattle.run_search.proofs.RunLaws.{search-through}
+use Rattle.bins.proofs.SampleLaws.{ceil-mono}
+use Rattle.column_index.proofs.AnswerLaws.{good-few}
 
 -- ---- an accepted index can be read entry by entry
 
@@ -73,45 +75,41 @@ through-wide k q col (w ∷ ws) c l f =
     ap₂ (λ (x : Fate) (a : Answer). with-line k (q .low) (q .high) x (k .per * c) (values k col c 1) a) (fate-wide (q .bin-count) (q .masked) (q .inner-masked) w l (ltb-true w (2 ^ q .bin-count) (h .1))) (through-wide k q col ws (suc c) l (g .1))
 
 -- THE SEARCH BY AN ACCEPTED INDEX, AS THE PROGRAM GOES
-pub search-by-through : (bs : List ℤ) (ds is : List ℕ) (col : List ℤ) (low high : ℤ) → length bs ≤ 63 → is-index-for readings bs col ds is ≡ true → search-by readings bs ds is col low high ≡ through readings (widened (asking readings bs low high)) col 0 (unpack ds is)
-search-by-through bs ds is col low high l a =
-    let n = accepted-lines largest (lit≤ tt) (lit< tt) (bins bs) (line-count readings col) ds is a in
-    search-through readings (lit< tt) bs low high col (unpack ds is) (n .1)
-    ∙ through-wide readings (asking readings bs low high) col (unpack ds is) 0 (omega arith) (n .0)
-
--- good borders are at most 63
-pub good-few : (bs : List ℤ) → good-borders bs ≡ true → length bs ≤ 63
-good-few bs e = leb-true (length bs) 63 (and-eq-true-iff (leb (length bs) 63) (rising bs) .0 e .0)
+pub search-by-through : (k : Kind) → 0 < k .per → (bs : List ℤ) (ds is : List ℕ) (col : List ℤ) (low high : ℤ) → length bs ≤ 63 → is-index-for k bs col ds is ≡ true → search-by k bs ds is col low high ≡ through k (widened (asking k bs low high)) col 0 (unpack ds is)
+search-by-through k p bs ds is col low high l a =
+    let n = accepted-lines largest (lit≤ tt) (lit< tt) (bins bs) (line-count k col) ds is a in
+    search-through k p bs low high col (unpack ds is) (n .1)
+    ∙ through-wide k (asking k bs low high) col (unpack ds is) 0 (omega arith) (n .0)
 
 -- ---- the checks, in their order
 
-module _ (col bs : List ℤ) (is ds : List ℕ) where
-  pub checked-long : most-rows < length col → checking.TooLong ≡ checked-answer col bs is ds
+module _ (k : Kind) (col bs : List ℤ) (is ds : List ℕ) where
+  pub checked-long : most-rows < length col → checking.TooLong ≡ checked-answer k col bs is ds
   unfolding checked-answer
-  checked-long h = sym (ap (λ (b : Bool). cond b checking.TooLong (cond (not (good-borders bs)) checking.BadBorders (cond (not (is-index-for readings bs col ds is)) checking.NoIndex checking.Fine))) (lt-ltb most-rows (length col) h))
+  checked-long h = sym (ap (λ (b : Bool). cond b checking.TooLong (cond (not (good-borders bs)) checking.BadBorders (cond (not (is-index-for k bs col ds is)) checking.NoIndex checking.Fine))) (lt-ltb most-rows (length col) h))
 
   -- past the first check, by the two tests that are left
-  pub checked-rest : length col ≤ most-rows → (g a : Bool) → good-borders bs ≡ g → is-index-for readings bs col ds is ≡ a → cond (not g) checking.BadBorders (cond (not a) checking.NoIndex checking.Fine) ≡ checked-answer col bs is ds
+  pub checked-rest : length col ≤ most-rows → (g a : Bool) → good-borders bs ≡ g → is-index-for k bs col ds is ≡ a → cond (not g) checking.BadBorders (cond (not a) checking.NoIndex checking.Fine) ≡ checked-answer k col bs is ds
   unfolding checked-answer
   checked-rest h g a p q =
-      sym (ap (λ (b : Bool). cond b checking.TooLong (cond (not (good-borders bs)) checking.BadBorders (cond (not (is-index-for readings bs col ds is)) checking.NoIndex checking.Fine))) (le-ltb most-rows (length col) h)
+      sym (ap (λ (b : Bool). cond b checking.TooLong (cond (not (good-borders bs)) checking.BadBorders (cond (not (is-index-for k bs col ds is)) checking.NoIndex checking.Fine))) (le-ltb most-rows (length col) h)
       ∙ ap₂ (λ (x y : Bool). cond (not x) checking.BadBorders (cond (not y) checking.NoIndex checking.Fine)) p q)
 
   -- bad borders, whatever the words
-  pub checked-borders : length col ≤ most-rows → good-borders bs ≡ false → checking.BadBorders ≡ checked-answer col bs is ds
-  checked-borders h p = checked-rest h false (is-index-for readings bs col ds is) p refl
+  pub checked-borders : length col ≤ most-rows → good-borders bs ≡ false → checking.BadBorders ≡ checked-answer k col bs is ds
+  checked-borders h p = checked-rest h false (is-index-for k bs col ds is) p refl
 
   -- what a passed check says
   pub record Passed : Type 0 where
     pub few-rows : length col ≤ most-rows
     pub good : good-borders bs ≡ true
-    pub index : is-index-for readings bs col ds is ≡ true
+    pub index : is-index-for k bs col ds is ≡ true
 
-  pub checked-passed : checked-answer col bs is ds ≡ checking.Fine → Passed
+  pub checked-passed : checked-answer k col bs is ds ≡ checking.Fine → Passed
   unfolding checked-answer
-  checked-passed e = go (ltb most-rows (length col)) refl (good-borders bs) refl (is-index-for readings bs col ds is) refl e
+  checked-passed e = go (ltb most-rows (length col)) refl (good-borders bs) refl (is-index-for k bs col ds is) refl e
     where
-      go : (l : Bool) → ltb most-rows (length col) ≡ l → (g : Bool) → good-borders bs ≡ g → (a : Bool) → is-index-for readings bs col ds is ≡ a → cond l checking.TooLong (cond (not g) checking.BadBorders (cond (not a) checking.NoIndex checking.Fine)) ≡ checking.Fine → Passed
+      go : (l : Bool) → ltb most-rows (length col) ≡ l → (g : Bool) → good-borders bs ≡ g → (a : Bool) → is-index-for k bs col ds is ≡ a → cond l checking.TooLong (cond (not g) checking.BadBorders (cond (not a) checking.NoIndex checking.Fine)) ≡ checking.Fine → Passed
       go true p g q a r e = absurd (let z : _≡_ {A = ℕ} 0 1 = cc in omega arith)
       go false p false q a r e = absurd (let z : _≡_ {A = ℕ} 0 1 = cc in omega arith)
       go false p true q false r e = absurd (let z : _≡_ {A = ℕ} 0 1 = cc in omega arith)
@@ -124,11 +122,11 @@ by-check checking.TooLong a = searching.TooLong
 by-check checking.BadBorders a = searching.BadBorders
 by-check checking.NoIndex a = searching.NoIndex
 
-pub search-checked : (col bs : List ℤ) (is ds : List ℕ) (low high : ℤ) (space : ℕ) → search-answer col bs is ds low high space ≡ by-check (checked-answer col bs is ds) (cond (ltZ high low) searching.LowAboveHigh (search-room (search-by readings bs ds is col low high) space))
+pub search-checked : (k : Kind) (col bs : List ℤ) (is ds : List ℕ) (low high : ℤ) (space : ℕ) → search-answer k col bs is ds low high space ≡ by-check (checked-answer k col bs is ds) (cond (ltZ high low) searching.LowAboveHigh (search-room (search-by k bs ds is col low high) space))
 unfolding search-answer checked-answer
-search-checked col bs is ds low high space = go (ltb most-rows (length col)) (good-borders bs) (is-index-for readings bs col ds is)
+search-checked k col bs is ds low high space = go (ltb most-rows (length col)) (good-borders bs) (is-index-for k bs col ds is)
   where
-    go : (l g a : Bool) → cond l searching.TooLong (cond (not g) searching.BadBorders (cond (not a) searching.NoIndex (cond (ltZ high low) searching.LowAboveHigh (search-room (search-by readings bs ds is col low high) space)))) ≡ by-check (cond l checking.TooLong (cond (not g) checking.BadBorders (cond (not a) checking.NoIndex checking.Fine))) (cond (ltZ high low) searching.LowAboveHigh (search-room (search-by readings bs ds is col low high) space))
+    go : (l g a : Bool) → cond l searching.TooLong (cond (not g) searching.BadBorders (cond (not a) searching.NoIndex (cond (ltZ high low) searching.LowAboveHigh (search-room (search-by k bs ds is col low high) space)))) ≡ by-check (cond l checking.TooLong (cond (not g) checking.BadBorders (cond (not a) checking.NoIndex checking.Fine))) (cond (ltZ high low) searching.LowAboveHigh (search-room (search-by k bs ds is col low high) space))
     go true g a = refl
     go false false a = refl
     go false true false = refl
@@ -144,30 +142,30 @@ room-done a space h = sym (ap (λ (b : Bool). cond b (searching.Short (length (a
 
 -- ---- the call, by what its checks say
 
-module _ (col bs : List ℤ) (is ds : List ℕ) (low high : ℤ) (rows : List ℕ) where
+module _ (k : Kind) (col bs : List ℤ) (is ds : List ℕ) (low high : ℤ) (rows : List ℕ) where
   abbrev past-checks : SearchAnswer
-  past-checks = cond (ltZ high low) searching.LowAboveHigh (search-room (search-by readings bs ds is col low high) (length rows))
+  past-checks = cond (ltZ high low) searching.LowAboveHigh (search-room (search-by k bs ds is col low high) (length rows))
 
-  pub answered : (x : IndexCheck) → checked-answer col bs is ds ≡ x → (r : SearchAnswer) → r ≡ by-check x past-checks → r ≡ search-answer col bs is ds low high (length rows)
-  answered x e r p = p ∙ sym (search-checked col bs is ds low high (length rows) ∙ ap (λ (y : IndexCheck). by-check y past-checks) e)
+  pub answered : (x : IndexCheck) → checked-answer k col bs is ds ≡ x → (r : SearchAnswer) → r ≡ by-check x past-checks → r ≡ search-answer k col bs is ds low high (length rows)
+  answered x e r p = p ∙ sym (search-checked k col bs is ds low high (length rows) ∙ ap (λ (y : IndexCheck). by-check y past-checks) e)
 
   -- low above high
-  pub answered-order : checked-answer col bs is ds ≡ checking.Fine → ltZ high low ≡ true → searching.LowAboveHigh ≡ search-answer col bs is ds low high (length rows)
-  answered-order e h = answered checking.Fine e searching.LowAboveHigh (sym (ap (λ (b : Bool). cond b searching.LowAboveHigh (search-room (search-by readings bs ds is col low high) (length rows))) h))
+  pub answered-order : checked-answer k col bs is ds ≡ checking.Fine → ltZ high low ≡ true → searching.LowAboveHigh ≡ search-answer k col bs is ds low high (length rows)
+  answered-order e h = answered checking.Fine e searching.LowAboveHigh (sym (ap (λ (b : Bool). cond b searching.LowAboveHigh (search-room (search-by k bs ds is col low high) (length rows))) h))
 
   -- found, as the program goes
-  pub answered-found : checked-answer col bs is ds ≡ checking.Fine → ltZ high low ≡ false → (q : Asked) → q ≡ widened (asking readings bs low high) → (r : SearchAnswer) (rows′ : List ℕ) → r ≡ search-room (through readings q col 0 (unpack ds is)) (length rows) → rows′ ≡ after (numbered (search-number r)) (through readings q col 0 (unpack ds is) .ids) rows → Searches col bs is ds low high rows r rows′
-  answered-found e h q s r rows′ p w =
-      let ok = checked-passed col bs is ds e in
-      let t : through readings q col 0 (unpack ds is) ≡ search-by readings bs ds is col low high = ap (λ (x : Asked). through readings x col 0 (unpack ds is)) s ∙ sym (search-by-through bs ds is col low high (good-few bs (ok .good)) (ok .index)) in
+  pub answered-found : 0 < k .per → checked-answer k col bs is ds ≡ checking.Fine → ltZ high low ≡ false → (q : Asked) → q ≡ widened (asking k bs low high) → (r : SearchAnswer) (rows′ : List ℕ) → r ≡ search-room (through k q col 0 (unpack ds is)) (length rows) → rows′ ≡ after (numbered (search-number r)) (through k q col 0 (unpack ds is) .ids) rows → Searches k col bs is ds low high rows r rows′
+  answered-found per e h q s r rows′ p w =
+      let ok = checked-passed k col bs is ds e in
+      let t : through k q col 0 (unpack ds is) ≡ search-by k bs ds is col low high = ap (λ (x : Asked). through k x col 0 (unpack ds is)) s ∙ sym (search-by-through k per bs ds is col low high (good-few bs (ok .good)) (ok .index)) in
       record {
-        answers = answered checking.Fine e r (p ∙ ap (λ (a : Answer). search-room a (length rows)) t ∙ sym (ap (λ (b : Bool). cond b searching.LowAboveHigh (search-room (search-by readings bs ds is col low high) (length rows))) h));
+        answers = answered checking.Fine e r (p ∙ ap (λ (a : Answer). search-room a (length rows)) t ∙ sym (ap (λ (b : Bool). cond b searching.LowAboveHigh (search-room (search-by k bs ds is col low high) (length rows))) h));
         rows-after = w ∙ ap (λ (a : Answer). after (numbered (search-number r)) (a .ids) rows) t;
       }
 
 -- the lines of an index for a column that is not too long
-pub passed-lines : (col bs : List ℤ) (is ds : List ℕ) → checked-answer col bs is ds ≡ checking.Fine → (Readable ds is) × (length (unpack ds is) ≤ 1048576) × (length col ≤ 16777216)
-passed-lines col bs is ds e =
-    let ok = checked-passed col bs is ds e in
-    let n = accepted-lines largest (lit≤ tt) (lit< tt) (bins bs) (line-count readings col) ds is (ok .index) .1 in
-    (accepted-readable (bins bs) (line-count readings col) ds is (ok .index), omega (arith, n, ok .few-rows), ok .few-rows)
+pub passed-lines : (k : Kind) → 0 < k .per → (col bs : List ℤ) (is ds : List ℕ) → checked-answer k col bs is ds ≡ checking.Fine → (Readable ds is) × (length (unpack ds is) ≤ most-lines k) × (length col ≤ most-rows)
+passed-lines k p col bs is ds e =
+    let ok = checked-passed k col bs is ds e in
+    let n = accepted-lines largest (lit≤ tt) (lit< tt) (bins bs) (line-count k col) ds is (ok .index) .1 in
+    (accepted-readable (bins bs) (line-count k col) ds is (ok .index), omega (arith, n, ceil-mono (length col) most-rows (k .per) p (ok .few-rows)), ok .few-rows)

@@ -9,7 +9,7 @@ use lib.Seq.{sets, drop-cons}
 use lib.IntN.{ℤ, pos}
 use Rattle.words.specs.Lists.{ceil}
 use Rattle.words.proofs.ListLaws.{ceil-below}
-use Rattle.bins.specs.Bins.{readings, imprint, imprints}
+use Rattle.bins.specs.Bins.{Kind, imprint, imprints}
 use Rattle.bins.proofs.BinLaws.{imprints-length}
 use Rattle.bins.proofs.LineLaws.{imprints-at}
 use Rattle.dictionary.specs.declared.packing.Packer.{Packer}
@@ -18,41 +18,41 @@ use Rattle.dictionary.specs.Packer.{after, move-on, added, settled}
 use Rattle.dictionary.proofs.PackLoops.{Measuring, measuring-next, measuring-ends, Writing, writing-next, writing-ends, dict-short, imps-short}
 use Rattle.column_index.specs.Index.{packed-with}
 
-module _ (bs col : List ℤ) where
+module _ (k : Kind) (bs col : List ℤ) where
   -- a packing is never longer than the lines
-  pub column-imps-short : length (packed-with readings bs col .imps) ≤ ceil (length col) 16
-  column-imps-short = rw (← imprints-length readings bs col) (imps-short (imprints readings bs col))
+  pub column-imps-short : length (packed-with k bs col .imps) ≤ ceil (length col) (k .per)
+  column-imps-short = rw (← imprints-length k bs col) (imps-short (imprints k bs col))
 
-  pub column-dict-short : length (packed-with readings bs col .dict) ≤ ceil (length col) 16
-  column-dict-short = rw (← imprints-length readings bs col) (dict-short (imprints readings bs col))
+  pub column-dict-short : length (packed-with k bs col .dict) ≤ ceil (length col) (k .per)
+  column-dict-short = rw (← imprints-length k bs col) (dict-short (imprints k bs col))
 
   module _ (p : Packer) (i : ℕ) where
     -- line i begins inside the column
-    pub line-inside : i < ceil (length col) 16 → i * 16 ≤ length col
-    line-inside h = omega (arith, ceil-below (length col) 16 i (omega arith) h)
+    pub line-inside : 0 < k .per → i < ceil (length col) (k .per) → k .per * i ≤ length col
+    line-inside per h = omega (arith, ceil-below (length col) (k .per) i per h)
 
-    module _ (y : ℕ) (of-y : y ≡ imprint readings bs (take 16 (drop (16 * i) col))) (h : i < ceil (length col) 16) where
-      here : getD (imprints readings bs col) i 0 ≡ y
-      here = imprints-at readings bs col i h ∙ sym of-y
+    module _ (y : ℕ) (of-y : y ≡ imprint k bs (take (k .per) (drop (k .per * i) col))) (h : i < ceil (length col) (k .per)) where
+      here : getD (imprints k bs col) i 0 ≡ y
+      here = imprints-at k bs col i h ∙ sym of-y
 
-      inside : i < length (imprints readings bs col)
+      inside : i < length (imprints k bs col)
       inside = rw imprints-length h
 
-      pub column-measures : Measuring (imprints readings bs col) p (drop i (imprints readings bs col)) → Measuring (imprints readings bs col) (after p (move-on largest (p .state) y)) (drop (i + 1) (imprints readings bs col))
-      column-measures m = rw here at (measuring-next (imprints readings bs col) p i inside m)
+      pub column-measures : Measuring (imprints k bs col) p (drop i (imprints k bs col)) → Measuring (imprints k bs col) (after p (move-on largest (p .state) y)) (drop (i + 1) (imprints k bs col))
+      column-measures m = rw here at (measuring-next (imprints k bs col) p i inside m)
 
-      pub column-writes : (i₀ d₀ is ds : List ℕ) → Writing (imprints readings bs col) i₀ d₀ p (drop i (imprints readings bs col)) is ds → (is′ ds′ : List ℕ) → is′ ≡ sets is (p .kept) (added (move-on largest (p .state) y .keeps) y) → ds′ ≡ sets ds (p .words) (settled (move-on largest (p .state) y .word)) → Writing (imprints readings bs col) i₀ d₀ (after p (move-on largest (p .state) y)) (drop (i + 1) (imprints readings bs col)) is′ ds′
-      column-writes i₀ d₀ is ds = rw here at (writing-next (imprints readings bs col) p i i₀ d₀ is ds inside)
+      pub column-writes : (i₀ d₀ is ds : List ℕ) → Writing (imprints k bs col) i₀ d₀ p (drop i (imprints k bs col)) is ds → (is′ ds′ : List ℕ) → is′ ≡ sets is (p .kept) (added (move-on largest (p .state) y .keeps) y) → ds′ ≡ sets ds (p .words) (settled (move-on largest (p .state) y .word)) → Writing (imprints k bs col) i₀ d₀ (after p (move-on largest (p .state) y)) (drop (i + 1) (imprints k bs col)) is′ ds′
+      column-writes i₀ d₀ is ds = rw here at (writing-next (imprints k bs col) p i i₀ d₀ is ds inside)
 
-    module _ (h : ceil (length col) 16 ≤ i) where
-      past : length (imprints readings bs col) ≤ i
+    module _ (h : ceil (length col) (k .per) ≤ i) where
+      past : length (imprints k bs col) ≤ i
       past = rw imprints-length h
 
-      pub column-measured : Measuring (imprints readings bs col) p (drop i (imprints readings bs col)) → Measuring (imprints readings bs col) p []
-      column-measured m = measuring-ends (imprints readings bs col) p i past m
+      pub column-measured : Measuring (imprints k bs col) p (drop i (imprints k bs col)) → Measuring (imprints k bs col) p []
+      column-measured m = measuring-ends (imprints k bs col) p i past m
 
-      pub column-written : (i₀ d₀ is ds : List ℕ) → Writing (imprints readings bs col) i₀ d₀ p (drop i (imprints readings bs col)) is ds → Writing (imprints readings bs col) i₀ d₀ p [] is ds
-      column-written i₀ d₀ is ds w = writing-ends (imprints readings bs col) p i i₀ d₀ is ds past w
+      pub column-written : (i₀ d₀ is ds : List ℕ) → Writing (imprints k bs col) i₀ d₀ p (drop i (imprints k bs col)) is ds → Writing (imprints k bs col) i₀ d₀ p [] is ds
+      column-written i₀ d₀ is ds w = writing-ends (imprints k bs col) p i i₀ d₀ is ds past w
 
 -- ---- borders, copied
 

@@ -1,5 +1,5 @@
 -- Pack and unpack undo each other, and a search with the index that build answers lists what a plain scan lists: from the calls' own promises. Assumes nothing.
-use Prim.Native.Nat.{ℕ, _≤_}
+use Prim.Native.Nat.{ℕ, _<_, _≤_}
 use mathlib.Core.Path.{_≡_, refl, sym, _∙_, ap, ap₂}
 use mathlib.Core.List.{List}
 use mathlib.Core.Bool.{Bool, true, false, cond, not, and-eq-true-iff}
@@ -12,13 +12,13 @@ use borrow.Author.Tests.{le-ltb, le-leb, ltb-false}
 use Rattle.words.specs.Numbers.{numbered}
 use Rattle.words.specs.Lists.{every, filled}
 use Rattle.words.proofs.ListLaws.{take-filled}
-use Rattle.bins.specs.Bins.{readings, borders, rising, good-borders, bins}
+use Rattle.bins.specs.Bins.{Kind, most-rows, most-lines, borders, rising, good-borders, bins}
 use Rattle.bins.proofs.BorderLaws.{borders-rising, borders-count}
 use Rattle.dictionary.specs.Dictionary.{pack, unpack, largest, fit, accepted}
 use Rattle.dictionary.proofs.IndexLaws.{unpack-pack, pack-unpack, accepted-lines, pack-accepted}
 use Rattle.column_index.specs.Index.{built, is-index-for}
 use Rattle.run_search.specs.Search.{Answer, scan, search-by}
-use Rattle.column_index.specs.Promise.{Builds, build-answer, build-number, Packs, pack-answer, pack-number, Unpacks, unpack-answer, unpack-number, Searches, search-answer, most-rows, most-lines}
+use Rattle.column_index.specs.Promise.{Builds, build-answer, build-number, Packs, pack-answer, pack-number, Unpacks, unpack-answer, unpack-number, Searches, search-answer}
 use Rattle.column_index.specs.declared.BuildAnswer.{BuildAnswer}
 use Rattle.column_index.specs.declared.BuildAnswer.the-variants as build
 use Rattle.column_index.specs.declared.PackAnswer.{PackAnswer}
@@ -62,19 +62,19 @@ build-passed false false false false b i d n m l e = (refl, cc, cc, cc)
 -- ---- unpack of what pack wrote
 
 -- what pack's promise says where it answers number 0
-pub record Packed-all (ws : List ℕ) (bs : List ℤ) (i d : ℕ) (is′ ds′ : List ℕ) : Type 0 where
-  pub few : length ws ≤ most-lines
+pub record Packed-all (k : Kind) (ws : List ℕ) (bs : List ℤ) (i d : ℕ) (is′ ds′ : List ℕ) : Type 0 where
+  pub few : length ws ≤ most-lines k
   pub good : good-borders bs ≡ true
   pub fits : every (fit (bins bs)) ws ≡ true
   pub imprints-front : take i is′ ≡ pack largest ws .imps
   pub dictionary-front : take d ds′ ≡ pack largest ws .dict
 
-pub packs-all : {ws : List ℕ} {bs : List ℤ} {is ds : List ℕ} {i d : ℕ} {is′ ds′ : List ℕ} → Packs ws bs is ds (packing.Done i d) is′ ds′ → Packed-all ws bs i d is′ ds′
+pub packs-all : {k : Kind} {ws : List ℕ} {bs : List ℤ} {is ds : List ℕ} {i d : ℕ} {is′ ds′ : List ℕ} → Packs k ws bs is ds (packing.Done i d) is′ ds′ → Packed-all k ws bs i d is′ ds′
 unfolding pack-answer
-packs-all {ws} {bs} {is} {ds} {i} {d} {is′} {ds′} p =
-    let h = pack-passed (ltb most-lines (length ws)) (good-borders bs) (every (fit (bins bs)) ws) (ltb (length is) (length (pack largest ws .imps))) (ltb (length ds) (length (pack largest ws .dict))) i d (length (pack largest ws .imps)) (length (pack largest ws .dict)) (p .answers) in
+packs-all {k} {ws} {bs} {is} {ds} {i} {d} {is′} {ds′} p =
+    let h = pack-passed (ltb (most-lines k) (length ws)) (good-borders bs) (every (fit (bins bs)) ws) (ltb (length is) (length (pack largest ws .imps))) (ltb (length ds) (length (pack largest ws .dict))) i d (length (pack largest ws .imps)) (length (pack largest ws .dict)) (p .answers) in
     record {
-      few = ltb-false most-lines (length ws) (h .0);
+      few = ltb-false (most-lines k) (length ws) (h .0);
       good = h .1;
       fits = h .2;
       imprints-front = front i (pack largest ws .imps) is is′ (h .3) (p .imprints-after);
@@ -82,15 +82,15 @@ packs-all {ws} {bs} {is} {ds} {i} {d} {is′} {ds′} p =
     }
 
 -- UNPACK OF WHAT PACK WROTE IS THE LIST
-pub unpacks-packed : {ws : List ℕ} {bs : List ℤ} {is ds : List ℕ} {i d : ℕ} {is′ ds′ list : List ℕ} {r : UnpackAnswer} {list′ : List ℕ}
-    → Packs ws bs is ds (packing.Done i d) is′ ds′
-    → Unpacks bs (take i is′) (take d ds′) (length ws) list r list′
+pub unpacks-packed : {k : Kind} {ws : List ℕ} {bs : List ℤ} {is ds : List ℕ} {i d : ℕ} {is′ ds′ list : List ℕ} {r : UnpackAnswer} {list′ : List ℕ}
+    → Packs k ws bs is ds (packing.Done i d) is′ ds′
+    → Unpacks k bs (take i is′) (take d ds′) (length ws) list r list′
     → length ws ≤ length list
     → (r ≡ unpacking.Done (length ws)) × (take (length ws) list′ ≡ ws)
 unfolding unpack-answer
-unpacks-packed {ws} {bs} {is} {ds} {i} {d} {is′} {ds′} {list} {r} {list′} p u room = (answer, ap (take (length ws)) after-all ∙ take-filled ws list)
+unpacks-packed {k} {ws} {bs} {is} {ds} {i} {d} {is′} {ds′} {list} {r} {list′} p u room = (answer, ap (take (length ws)) after-all ∙ take-filled ws list)
   where
-    a : Packed-all ws bs i d is′ ds′
+    a : Packed-all k ws bs i d is′ ds′
     a = packs-all p
 
     whole : unpack (take d ds′) (take i is′) ≡ ws
@@ -100,23 +100,23 @@ unpacks-packed {ws} {bs} {is} {ds} {i} {d} {is′} {ds′} {list} {r} {list′} 
     index = ap₂ (accepted largest (bins bs) (length ws)) (a .dictionary-front) (a .imprints-front) ∙ pack-accepted largest (lit≤ tt) (lit< tt) (bins bs) ws (a .fits)
 
     answer : r ≡ unpacking.Done (length ws)
-    answer = u .answers ∙ rw (le-ltb most-lines (length ws) (a .few), a .good, index, le-ltb (length list) (length ws) room)
+    answer = u .answers ∙ rw (le-ltb (most-lines k) (length ws) (a .few), a .good, index, le-ltb (length list) (length ws) room)
 
     after-all : list′ ≡ filled ws list
     after-all = rw (answer, whole) at (u .list-after)
 
 -- PACK OF WHAT UNPACK WROTE IS THE WORDS
-pub packs-unpacked : {bs : List ℤ} {is ds : List ℕ} {lines n : ℕ} {list list′ is₀ ds₀ : List ℕ} {r : PackAnswer} {is′ ds′ : List ℕ}
-    → Unpacks bs is ds lines list (unpacking.Done n) list′
-    → Packs (take n list′) bs is₀ ds₀ r is′ ds′
+pub packs-unpacked : {k : Kind} {bs : List ℤ} {is ds : List ℕ} {lines n : ℕ} {list list′ is₀ ds₀ : List ℕ} {r : PackAnswer} {is′ ds′ : List ℕ}
+    → Unpacks k bs is ds lines list (unpacking.Done n) list′
+    → Packs k (take n list′) bs is₀ ds₀ r is′ ds′
     → length is ≤ length is₀
     → length ds ≤ length ds₀
     → (r ≡ packing.Done (length is) (length ds)) × (take (length is) is′ ≡ is) × (take (length ds) ds′ ≡ ds)
 unfolding unpack-answer pack-answer
-packs-unpacked {bs} {is} {ds} {lines} {n} {list} {list′} {is₀} {ds₀} {r} {is′} {ds′} u p room-i room-d = (answer, ap (take (length is)) imprints-are ∙ take-filled is is₀, ap (take (length ds)) dictionary-is ∙ take-filled ds ds₀)
+packs-unpacked {k} {bs} {is} {ds} {lines} {n} {list} {list′} {is₀} {ds₀} {r} {is′} {ds′} u p room-i room-d = (answer, ap (take (length is)) imprints-are ∙ take-filled is is₀, ap (take (length ds)) dictionary-is ∙ take-filled ds ds₀)
   where
-    h : (ltb most-lines lines ≡ false) × (good-borders bs ≡ true) × (accepted largest (bins bs) lines ds is ≡ true) × (n ≡ lines)
-    h = unpack-passed (ltb most-lines lines) (good-borders bs) (accepted largest (bins bs) lines ds is) (ltb (length list) lines) n lines (u .answers)
+    h : (ltb (most-lines k) lines ≡ false) × (good-borders bs ≡ true) × (accepted largest (bins bs) lines ds is ≡ true) × (n ≡ lines)
+    h = unpack-passed (ltb (most-lines k) lines) (good-borders bs) (accepted largest (bins bs) lines ds is) (ltb (length list) lines) n lines (u .answers)
 
     lines-of : (every (fit (bins bs)) (unpack ds is) ≡ true) × (length (unpack ds is) ≡ lines)
     lines-of = accepted-lines largest (lit≤ tt) (lit< tt) (bins bs) lines ds is (h .2)
@@ -133,8 +133,8 @@ packs-unpacked {bs} {is} {ds} {lines} {n} {list} {list′} {is₀} {ds₀} {r} {
     dict-is : pack largest (take n list′) .dict ≡ ds
     dict-is = ap (λ (l : List ℕ). pack largest l .dict) listed ∙ words-of .0
 
-    few : ltb most-lines (length (take n list′)) ≡ false
-    few = ap (ltb most-lines) (ap length listed ∙ lines-of .1) ∙ h .0
+    few : ltb (most-lines k) (length (take n list′)) ≡ false
+    few = ap (ltb (most-lines k)) (ap length listed ∙ lines-of .1) ∙ h .0
 
     fits : every (fit (bins bs)) (take n list′) ≡ true
     fits = ap (every (fit (bins bs))) listed ∙ lines-of .0
@@ -151,80 +151,81 @@ packs-unpacked {bs} {is} {ds} {lines} {n} {list} {list′} {is₀} {ds₀} {r} {
 -- ---- a search with what build answered
 
 -- what build's promise says where it answers number 0
-pub record Built-all (col : List ℤ) (b i d : ℕ) (bs′ : List ℤ) (is′ ds′ : List ℕ) : Type 0 where
+pub record Built-all (k : Kind) (col : List ℤ) (b i d : ℕ) (bs′ : List ℤ) (is′ ds′ : List ℕ) : Type 0 where
   pub few : length col ≤ most-rows
-  pub borders-front : take b bs′ ≡ borders readings col
-  pub imprints-front : take i is′ ≡ built readings col .imps
-  pub dictionary-front : take d ds′ ≡ built readings col .dict
+  pub borders-front : take b bs′ ≡ borders k col
+  pub imprints-front : take i is′ ≡ built k col .imps
+  pub dictionary-front : take d ds′ ≡ built k col .dict
 
-pub builds-all : {col bs : List ℤ} {is ds : List ℕ} {b i d : ℕ} {bs′ : List ℤ} {is′ ds′ : List ℕ} → Builds col bs is ds (build.Done b i d) bs′ is′ ds′ → Built-all col b i d bs′ is′ ds′
+pub builds-all : {k : Kind} {col bs : List ℤ} {is ds : List ℕ} {b i d : ℕ} {bs′ : List ℤ} {is′ ds′ : List ℕ} → Builds k col bs is ds (build.Done b i d) bs′ is′ ds′ → Built-all k col b i d bs′ is′ ds′
 unfolding build-answer
-builds-all {col} {bs} {is} {ds} {b} {i} {d} {bs′} {is′} {ds′} p =
-    let nb = length (borders readings col) in
-    let ni = length (built readings col .imps) in
-    let nd = length (built readings col .dict) in
+builds-all {k} {col} {bs} {is} {ds} {b} {i} {d} {bs′} {is′} {ds′} p =
+    let nb = length (borders k col) in
+    let ni = length (built k col .imps) in
+    let nd = length (built k col .dict) in
     let h = build-passed (ltb most-rows (length col)) (ltb (length bs) nb) (ltb (length is) ni) (ltb (length ds) nd) b i d nb ni nd (p .answers) in
     record {
       few = ltb-false most-rows (length col) (h .0);
-      borders-front = front b (borders readings col) bs bs′ (h .1) (p .borders-after);
-      imprints-front = front i (built readings col .imps) is is′ (h .2) (p .imprints-after);
-      dictionary-front = front d (built readings col .dict) ds ds′ (h .3) (p .dictionary-after);
+      borders-front = front b (borders k col) bs bs′ (h .1) (p .borders-after);
+      imprints-front = front i (built k col .imps) is is′ (h .2) (p .imprints-after);
+      dictionary-front = front d (built k col .dict) ds ds′ (h .3) (p .dictionary-after);
     }
 
 -- the search of a column with its own index: its rows are those of a plain scan, rising, each once
-pub record Lists-the-scan (col : List ℤ) (low high : ℤ) (r : SearchAnswer) (rows′ : List ℕ) : Type 0 where
+pub record Lists-the-scan (k : Kind) (col : List ℤ) (low high : ℤ) (r : SearchAnswer) (rows′ : List ℕ) : Type 0 where
   pub skipped : ℕ
   pub whole : ℕ
   pub compared : ℕ
-  pub answers : r ≡ searching.Done (length (scan readings low high 0 col)) skipped whole compared
-  pub rows-front : take (length (scan readings low high 0 col)) rows′ ≡ scan readings low high 0 col
-  pub rise : Rises 0 (length col) (scan readings low high 0 col)
+  pub answers : r ≡ searching.Done (length (scan k low high 0 col)) skipped whole compared
+  pub rows-front : take (length (scan k low high 0 col)) rows′ ≡ scan k low high 0 col
+  pub rise : Rises 0 (length col) (scan k low high 0 col)
 
-good-built : (col : List ℤ) → good-borders (borders readings col) ≡ true
-good-built col = and-eq-true-iff (leb (length (borders readings col)) 63) (rising (borders readings col)) .1 (le-leb (length (borders readings col)) 63 (borders-count readings col), borders-rising readings col)
+good-built : (k : Kind) (col : List ℤ) → good-borders (borders k col) ≡ true
+good-built k col = and-eq-true-iff (leb (length (borders k col)) 63) (rising (borders k col)) .1 (le-leb (length (borders k col)) 63 (borders-count k col), borders-rising k col)
 
 -- WITH THE INDEX THAT BUILD ANSWERS, A SEARCH LISTS EXACTLY THE ROWS OF A PLAIN SCAN, RISING
-pub searches-built : {col bs : List ℤ} {is ds : List ℕ} {b i d : ℕ} {bs′ : List ℤ} {is′ ds′ : List ℕ} {low high : ℤ} {rows : List ℕ} {r : SearchAnswer} {rows′ : List ℕ}
-    → Builds col bs is ds (build.Done b i d) bs′ is′ ds′
-    → Searches col (take b bs′) (take i is′) (take d ds′) low high rows r rows′
-    → InKind readings col
+pub searches-built : {k : Kind} {col bs : List ℤ} {is ds : List ℕ} {b i d : ℕ} {bs′ : List ℤ} {is′ ds′ : List ℕ} {low high : ℤ} {rows : List ℕ} {r : SearchAnswer} {rows′ : List ℕ}
+    → Builds k col bs is ds (build.Done b i d) bs′ is′ ds′
+    → Searches k col (take b bs′) (take i is′) (take d ds′) low high rows r rows′
+    → 0 < k .per
+    → InKind k col
     → ltZ high low ≡ false
-    → length (scan readings low high 0 col) ≤ length rows
-    → Lists-the-scan col low high r rows′
+    → length (scan k low high 0 col) ≤ length rows
+    → Lists-the-scan k col low high r rows′
 unfolding search-answer
-searches-built {col} {bs} {is} {ds} {b} {i} {d} {bs′} {is′} {ds′} {low} {high} {rows} {r} {rows′} p s kind order room =
+searches-built {k} {col} {bs} {is} {ds} {b} {i} {d} {bs′} {is′} {ds′} {low} {high} {rows} {r} {rows′} p s per kind order room =
     record {
       skipped = found .skips;
       whole = found .wholes;
       compared = found .compares;
       answers = answer;
       rows-front = ap (take (length all)) filled-rows ∙ take-filled all rows;
-      rise = rw ids-are at (search-rises readings low high (lit< tt) (take b bs′) (unpack (take d ds′) (take i is′)) col);
+      rise = rw ids-are at (search-rises k low high per (take b bs′) (unpack (take d ds′) (take i is′)) col);
     }
   where
-    a : Built-all col b i d bs′ is′ ds′
+    a : Built-all k col b i d bs′ is′ ds′
     a = builds-all p
 
     found : Answer
-    found = search-by readings (take b bs′) (take d ds′) (take i is′) col low high
+    found = search-by k (take b bs′) (take d ds′) (take i is′) col low high
 
     all : List ℕ
-    all = scan readings low high 0 col
+    all = scan k low high 0 col
 
-    ids-are : search-by readings (take b bs′) (take d ds′) (take i is′) col low high .ids ≡ scan readings low high 0 col
-    ids-are = rw (a .borders-front, a .imprints-front, a .dictionary-front) (built-scan readings (lit< tt) col low high kind)
+    ids-are : search-by k (take b bs′) (take d ds′) (take i is′) col low high .ids ≡ scan k low high 0 col
+    ids-are = rw (a .borders-front, a .imprints-front, a .dictionary-front) (built-scan k per col low high kind)
 
-    index : is-index-for readings (take b bs′) col (take d ds′) (take i is′) ≡ true
-    index = rw (a .borders-front, a .imprints-front, a .dictionary-front) (built-accepted readings (lit< tt) col)
+    index : is-index-for k (take b bs′) col (take d ds′) (take i is′) ≡ true
+    index = rw (a .borders-front, a .imprints-front, a .dictionary-front) (built-accepted k per col)
 
     good : good-borders (take b bs′) ≡ true
-    good = ap good-borders (a .borders-front) ∙ good-built col
+    good = ap good-borders (a .borders-front) ∙ good-built k col
 
-    fits : ltb (length rows) (length (search-by readings (take b bs′) (take d ds′) (take i is′) col low high .ids)) ≡ false
-    fits = rw ids-are (le-ltb (length rows) (length (scan readings low high 0 col)) room)
+    fits : ltb (length rows) (length (search-by k (take b bs′) (take d ds′) (take i is′) col low high .ids)) ≡ false
+    fits = rw ids-are (le-ltb (length rows) (length (scan k low high 0 col)) room)
 
-    answer : r ≡ searching.Done (length (scan readings low high 0 col)) (search-by readings (take b bs′) (take d ds′) (take i is′) col low high .skips) (search-by readings (take b bs′) (take d ds′) (take i is′) col low high .wholes) (search-by readings (take b bs′) (take d ds′) (take i is′) col low high .compares)
+    answer : r ≡ searching.Done (length (scan k low high 0 col)) (search-by k (take b bs′) (take d ds′) (take i is′) col low high .skips) (search-by k (take b bs′) (take d ds′) (take i is′) col low high .wholes) (search-by k (take b bs′) (take d ds′) (take i is′) col low high .compares)
     answer = s .answers ∙ rw (le-ltb most-rows (length col) (a .few), good, index, order, fits, ids-are)
 
-    filled-rows : rows′ ≡ filled (scan readings low high 0 col) rows
+    filled-rows : rows′ ≡ filled (scan k low high 0 col) rows
     filled-rows = rw (answer, ids-are) at (s .rows-after)

@@ -9,7 +9,7 @@ use lib.ListN.{length}
 use lib.Signed.{ltZ}
 use Rattle.words.specs.Numbers.{Number, numbered, done, low-above-high, column-too-long, no-index, space-too-short, bad-borders}
 use Rattle.words.specs.Lists.{every, after}
-use Rattle.bins.specs.Bins.{readings, borders, good-borders, bins}
+use Rattle.bins.specs.Bins.{Kind, most-rows, most-lines, borders, good-borders, bins}
 use Rattle.dictionary.specs.Dictionary.{pack, unpack, largest, fit, accepted}
 use Rattle.column_index.specs.Index.{built, is-index-for}
 use Rattle.run_search.specs.Search.{Answer, search-by}
@@ -23,13 +23,6 @@ use Rattle.column_index.specs.declared.IndexCheck.{IndexCheck}
 use Rattle.column_index.specs.declared.IndexCheck.the-variants as checking
 use Rattle.column_index.specs.declared.SearchAnswer.{SearchAnswer}
 use Rattle.column_index.specs.declared.SearchAnswer.the-variants as searching
-
--- the most rows of a column, and the most lines of a list
-abbrev pub most-rows : ℕ
-most-rows = 16777216
-
-abbrev pub most-lines : ℕ
-most-lines = 1048576
 
 -- ---- build: 2, 4
 
@@ -52,16 +45,16 @@ build-beside (build.DictionaryShort n) = n ∷ 0 ∷ 0 ∷ 0 ∷ []
 abbrev pub build-lengths : ℕ → ℕ → ℕ → ℕ → ℕ → ℕ → BuildAnswer
 build-lengths b i d sb si sd = cond (ltb sb b) (build.BordersShort b) (cond (ltb si i) (build.ImprintsShort i) (cond (ltb sd d) (build.DictionaryShort d) (build.Done b i d)))
 
-unfoldable pub build-answer : List ℤ → ℕ → ℕ → ℕ → BuildAnswer
-build-answer col sb si sd =
+unfoldable pub build-answer : Kind → List ℤ → ℕ → ℕ → ℕ → BuildAnswer
+build-answer k col sb si sd =
     cond (ltb most-rows (length col)) build.TooLong
-    (build-lengths (length (borders readings col)) (length (built readings col .imps)) (length (built readings col .dict)) sb si sd)
+    (build-lengths (length (borders k col)) (length (built k col .imps)) (length (built k col .dict)) sb si sd)
 
-pub record Builds (col bs : List ℤ) (is ds : List ℕ) (r : BuildAnswer) (bs′ : List ℤ) (is′ ds′ : List ℕ) : Type 0 where
-  pub answers : r ≡ build-answer col (length bs) (length is) (length ds)
-  pub borders-after : bs′ ≡ after (numbered (build-number r)) (borders readings col) bs
-  pub imprints-after : is′ ≡ after (numbered (build-number r)) (built readings col .imps) is
-  pub dictionary-after : ds′ ≡ after (numbered (build-number r)) (built readings col .dict) ds
+pub record Builds (k : Kind) (col bs : List ℤ) (is ds : List ℕ) (r : BuildAnswer) (bs′ : List ℤ) (is′ ds′ : List ℕ) : Type 0 where
+  pub answers : r ≡ build-answer k col (length bs) (length is) (length ds)
+  pub borders-after : bs′ ≡ after (numbered (build-number r)) (borders k col) bs
+  pub imprints-after : is′ ≡ after (numbered (build-number r)) (built k col .imps) is
+  pub dictionary-after : ds′ ≡ after (numbered (build-number r)) (built k col .dict) ds
 
 -- ---- pack: 2, 5, 3, 4
 
@@ -85,14 +78,14 @@ pack-beside (packing.DictionaryShort n) = n ∷ 0 ∷ 0 ∷ []
 abbrev pub pack-lengths : ℕ → ℕ → ℕ → ℕ → PackAnswer
 pack-lengths i d si sd = cond (ltb si i) (packing.ImprintsShort i) (cond (ltb sd d) (packing.DictionaryShort d) (packing.Done i d))
 
-unfoldable pub pack-answer : List ℕ → List ℤ → ℕ → ℕ → PackAnswer
-pack-answer ws bs si sd =
-    cond (ltb most-lines (length ws)) packing.TooLong
+unfoldable pub pack-answer : Kind → List ℕ → List ℤ → ℕ → ℕ → PackAnswer
+pack-answer k ws bs si sd =
+    cond (ltb (most-lines k) (length ws)) packing.TooLong
     (cond (not (good-borders bs)) packing.BadBorders
     (cond (not (every (fit (bins bs)) ws)) packing.Unfit (pack-lengths (length (pack largest ws .imps)) (length (pack largest ws .dict)) si sd)))
 
-pub record Packs (ws : List ℕ) (bs : List ℤ) (is ds : List ℕ) (r : PackAnswer) (is′ ds′ : List ℕ) : Type 0 where
-  pub answers : r ≡ pack-answer ws bs (length is) (length ds)
+pub record Packs (k : Kind) (ws : List ℕ) (bs : List ℤ) (is ds : List ℕ) (r : PackAnswer) (is′ ds′ : List ℕ) : Type 0 where
+  pub answers : r ≡ pack-answer k ws bs (length is) (length ds)
   pub imprints-after : is′ ≡ after (numbered (pack-number r)) (pack largest ws .imps) is
   pub dictionary-after : ds′ ≡ after (numbered (pack-number r)) (pack largest ws .dict) ds
 
@@ -113,15 +106,15 @@ unpack-beside unpacking.BadBorders = 0 ∷ 0 ∷ []
 unpack-beside unpacking.NoIndex = 0 ∷ 0 ∷ []
 unpack-beside (unpacking.Short n) = n ∷ 0 ∷ []
 
-unfoldable pub unpack-answer : List ℤ → List ℕ → List ℕ → ℕ → ℕ → UnpackAnswer
-unpack-answer bs is ds lines space =
-    cond (ltb most-lines lines) unpacking.TooLong
+unfoldable pub unpack-answer : Kind → List ℤ → List ℕ → List ℕ → ℕ → ℕ → UnpackAnswer
+unpack-answer k bs is ds lines space =
+    cond (ltb (most-lines k) lines) unpacking.TooLong
     (cond (not (good-borders bs)) unpacking.BadBorders
     (cond (not (accepted largest (bins bs) lines ds is)) unpacking.NoIndex
     (cond (ltb space lines) (unpacking.Short lines) (unpacking.Done lines))))
 
-pub record Unpacks (bs : List ℤ) (is ds : List ℕ) (lines : ℕ) (ws : List ℕ) (r : UnpackAnswer) (ws′ : List ℕ) : Type 0 where
-  pub answers : r ≡ unpack-answer bs is ds lines (length ws)
+pub record Unpacks (k : Kind) (bs : List ℤ) (is ds : List ℕ) (lines : ℕ) (ws : List ℕ) (r : UnpackAnswer) (ws′ : List ℕ) : Type 0 where
+  pub answers : r ≡ unpack-answer k bs is ds lines (length ws)
   pub list-after : ws′ ≡ after (numbered (unpack-number r)) (unpack ds is) ws
 
 -- ---- range search: 2, 5, 3, 1, 4
@@ -151,19 +144,19 @@ search-words r = numbered (search-number r) ∷ search-beside r
 abbrev pub search-room : Answer → ℕ → SearchAnswer
 search-room a space = cond (ltb space (length (a .ids))) (searching.Short (length (a .ids))) (searching.Done (length (a .ids)) (a .skips) (a .wholes) (a .compares))
 
-unfoldable pub search-answer : List ℤ → List ℤ → List ℕ → List ℕ → ℤ → ℤ → ℕ → SearchAnswer
-search-answer col bs is ds low high space =
+unfoldable pub search-answer : Kind → List ℤ → List ℤ → List ℕ → List ℕ → ℤ → ℤ → ℕ → SearchAnswer
+search-answer k col bs is ds low high space =
     cond (ltb most-rows (length col)) searching.TooLong
     (cond (not (good-borders bs)) searching.BadBorders
-    (cond (not (is-index-for readings bs col ds is)) searching.NoIndex
-    (cond (ltZ high low) searching.LowAboveHigh (search-room (search-by readings bs ds is col low high) space))))
+    (cond (not (is-index-for k bs col ds is)) searching.NoIndex
+    (cond (ltZ high low) searching.LowAboveHigh (search-room (search-by k bs ds is col low high) space))))
 
-pub record Searches (col bs : List ℤ) (is ds : List ℕ) (low high : ℤ) (rows : List ℕ) (r : SearchAnswer) (rows′ : List ℕ) : Type 0 where
-  pub answers : r ≡ search-answer col bs is ds low high (length rows)
-  pub rows-after : rows′ ≡ after (numbered (search-number r)) (search-by readings bs ds is col low high .ids) rows
+pub record Searches (k : Kind) (col bs : List ℤ) (is ds : List ℕ) (low high : ℤ) (rows : List ℕ) (r : SearchAnswer) (rows′ : List ℕ) : Type 0 where
+  pub answers : r ≡ search-answer k col bs is ds low high (length rows)
+  pub rows-after : rows′ ≡ after (numbered (search-number r)) (search-by k bs ds is col low high .ids) rows
 
 -- the first three checks of the range search, 2, 5, 3, by themselves
-unfoldable pub checked-answer : List ℤ → List ℤ → List ℕ → List ℕ → IndexCheck
-checked-answer col bs is ds =
+unfoldable pub checked-answer : Kind → List ℤ → List ℤ → List ℕ → List ℕ → IndexCheck
+checked-answer k col bs is ds =
     cond (ltb most-rows (length col)) checking.TooLong
-    (cond (not (good-borders bs)) checking.BadBorders (cond (not (is-index-for readings bs col ds is)) checking.NoIndex checking.Fine))
+    (cond (not (good-borders bs)) checking.BadBorders (cond (not (is-index-for k bs col ds is)) checking.NoIndex checking.Fine))

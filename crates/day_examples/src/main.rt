@@ -225,7 +225,7 @@ fn main() {
     let mut borders = [0i32; 63];
     let mut imprints = [0u64; 2];
     let mut dictionary = [0u32; 2];
-    match column_index::made::build(&column, &mut borders, &mut imprints, &mut dictionary) {
+    match reading_index::made::build(&column, &mut borders, &mut imprints, &mut dictionary) {
         BuildAnswer::Done {
             borders: b,
             imprints: i,

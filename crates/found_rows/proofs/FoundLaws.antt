@@ -12,7 +12,7 @@ use Rattle.column_index.specs.Promise.{Searches, search-number}
 use Rattle.column_index.specs.declared.SearchAnswer.{SearchAnswer}
 use Rattle.found_rows.specs.Whole.{figures-of, found, rows-after}
 
-module _ (col bs : List ℤ) (is ds : List ℕ) (low high : ℤ) (rows : List ℕ) (r : SearchAnswer) (rows′ : List ℕ) (s : Searches col bs is ds low high rows r rows′) where
+module _ (col bs : List ℤ) (is ds : List ℕ) (low high : ℤ) (rows : List ℕ) (r : SearchAnswer) (rows′ : List ℕ) (s : Searches readings col bs is ds low high rows r rows′) where
   pub figures-found : figures-of r ≡ found col bs is ds low high (length rows)
   unfolding found
   figures-found = ap figures-of (s .answers)

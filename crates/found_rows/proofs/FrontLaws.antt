@@ -11,10 +11,10 @@ use lib.Signed.{ltZ}
 use Rattle.words.specs.Numbers.{numbered}
 use Rattle.words.specs.Lists.{after, filled}
 use Rattle.words.proofs.ListLaws.{take-filled}
-use Rattle.bins.specs.Bins.{readings, good-borders}
+use Rattle.bins.specs.Bins.{most-rows, readings, good-borders}
 use Rattle.run_search.specs.Search.{search-by}
 use Rattle.column_index.specs.Index.{is-index-for}
-use Rattle.column_index.specs.Promise.{search-number, most-rows, search-answer}
+use Rattle.column_index.specs.Promise.{search-number, search-answer}
 use Rattle.column_index.specs.declared.SearchAnswer.the-variants as searching
 use Rattle.found_rows.specs.Whole.{figures-of, in-order, found, rows-after}
 use Rattle.found_rows.specs.Front.{handed, Fronts}
@@ -37,7 +37,7 @@ front-within zero ids rows m e = omega (arith, length-append ids (drop (length i
 front-within (suc n) ids rows m e = omega arith
 
 module _ (col bs : List ℤ) (is ds : List ℕ) (low high : ℤ) (rows : List ℕ) where
-  listed-count : found col bs is ds low high (length rows) .listed ≡ length (handed (numbered (search-number (search-answer col bs is ds low high (length rows)))) (search-by readings bs ds is col low high .ids))
+  listed-count : found col bs is ds low high (length rows) .listed ≡ length (handed (numbered (search-number (search-answer readings col bs is ds low high (length rows)))) (search-by readings bs ds is col low high .ids))
   unfolding found search-answer
   listed-count =
       let a = search-by readings bs ds is col low high in
@@ -46,14 +46,14 @@ module _ (col bs : List ℤ) (is ds : List ℕ) (low high : ℤ) (rows : List �
   -- the front part lies within the space
   pub fronts-within : found col bs is ds low high (length rows) .listed ≤ length (rows-after col bs is ds low high rows)
   unfolding rows-after
-  fronts-within = front-within (numbered (search-number (search-answer col bs is ds low high (length rows)))) (search-by readings bs ds is col low high .ids) rows (found col bs is ds low high (length rows) .listed) listed-count
+  fronts-within = front-within (numbered (search-number (search-answer readings col bs is ds low high (length rows)))) (search-by readings bs ds is col low high .ids) rows (found col bs is ds low high (length rows) .listed) listed-count
 
   -- and holds the rows listed
   pub fronts-are : (out : List ℕ) → out ≡ in-order (found col bs is ds low high (length rows)) → Fronts col bs is ds low high rows (take (found col bs is ds low high (length rows) .listed) (rows-after col bs is ds low high rows)) out
   unfolding rows-after
   fronts-are out e =
       record {
-        part-is = front-part (numbered (search-number (search-answer col bs is ds low high (length rows)))) (search-by readings bs ds is col low high .ids) rows (found col bs is ds low high (length rows) .listed) listed-count;
+        part-is = front-part (numbered (search-number (search-answer readings col bs is ds low high (length rows)))) (search-by readings bs ds is col low high .ids) rows (found col bs is ds low high (length rows) .listed) listed-count;
         words-are = e ∙ figures-in-order col bs is ds low high (length rows);
       }
 

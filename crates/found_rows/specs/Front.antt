@@ -16,5 +16,5 @@ handed (suc n) ids = []
 
 -- the part, and six words beside it: the number, the length needed, how many rows, lines skipped, lines whole, values compared
 pub record Fronts (col bs : List ℤ) (is ds : List ℕ) (low high : ℤ) (rows part out′ : List ℕ) : Type 0 where
-  pub part-is : part ≡ handed (numbered (search-number (search-answer col bs is ds low high (length rows)))) (search-by readings bs ds is col low high .ids)
-  pub words-are : out′ ≡ search-words (search-answer col bs is ds low high (length rows))
+  pub part-is : part ≡ handed (numbered (search-number (search-answer readings col bs is ds low high (length rows)))) (search-by readings bs ds is col low high .ids)
+  pub words-are : out′ ≡ search-words (search-answer readings col bs is ds low high (length rows))

@@ -27,12 +27,12 @@ figures-of a = let w = search-beside a in figures (numbered (search-number a)) (
 
 -- the figures of a search into a space of so many words
 unfoldable pub found : List ℤ → List ℤ → List ℕ → List ℕ → ℤ → ℤ → ℕ → Figures
-found col bs is ds low high space = figures-of (search-answer col bs is ds low high space)
+found col bs is ds low high space = figures-of (search-answer readings col bs is ds low high space)
 
 -- the rows' space after the search
 unfoldable pub rows-after : List ℤ → List ℤ → List ℕ → List ℕ → ℤ → ℤ → List ℕ → List ℕ
 rows-after col bs is ds low high rows =
-    after (numbered (search-number (search-answer col bs is ds low high (length rows)))) (search-by readings bs ds is col low high .ids) rows
+    after (numbered (search-number (search-answer readings col bs is ds low high (length rows)))) (search-by readings bs ds is col low high .ids) rows
 
 -- the same borrow, at the words that the search leaves, beside the figures
 abbrev pub found-rows : List ℤ → List ℤ → List ℕ → List ℕ → ℤ → ℤ → RefT (List ℕ) → FoundRows

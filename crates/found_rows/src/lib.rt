@@ -73,7 +73,7 @@ pub fn find_figures(
 ) -> Figures
     ensures { λ r. ⌜ (r ≡ found (now (column .entry)) (now (borders .entry)) (now (imprints .entry)) (now (dictionary .entry)) low high (length (now (rows .entry)))) × (now (rows .exit) ≡ rows-after (now (column .entry)) (now (borders .entry)) (now (imprints .entry)) (now (dictionary .entry)) low high (now (rows .entry))) ⌝ }
 {
-    let answer = column_index::search(column, borders, imprints, dictionary, low, high, rows);
+    let answer = reading_index::search(column, borders, imprints, dictionary, low, high, rows);
     figures_of(answer)
 }
 

@@ -55,7 +55,7 @@ guards-within {w} {col} {bs} {is} {ds} {lo} {hi} {rows} {r} {w′} {rows′} p =
         let a : Answer = s .answer in
         let e = p .kept .told .meant m f in
         let q : rows′ ≡ after (guard-number (guard-answer col bs is ds lo hi (length rows) m)) (a .ids) rows = p .meant-rows m f ∙ ap (λ (x : GuardAnswer). after (guard-number x) (a .ids) rows) e in
-        subst₂ (λ (x : GuardAnswer) (l : List ℕ). guard-listed x ≤ length l) (sym e) (sym q) (range-within (outside m lo || outside m hi) (ltb hi lo) (checked-answer col bs is ds) (s .outcome) (a .ids) rows (a .skips) (a .wholes) (a .compares) (ltb (length rows) (length (a .ids))))
+        subst₂ (λ (x : GuardAnswer) (l : List ℕ). guard-listed x ≤ length l) (sym e) (sym q) (range-within (outside m lo || outside m hi) (ltb hi lo) (checked-answer readings col bs is ds) (s .outcome) (a .ids) rows (a .skips) (a .wholes) (a .compares) (ltb (length rows) (length (a .ids))))
 
 -- one part, one list of filter words, one list of seven words
 pub hands-only : {w : List ℕ} {col bs : List ℤ} {is ds : List ℕ} {lo hi : ℕ} {rows u v p q o t : List ℕ} → Hands w col bs is ds lo hi rows u p o → Hands w col bs is ds lo hi rows v q t → (u ≡ v) × (p ≡ q) × (o ≡ t)

@@ -140,7 +140,7 @@ module _ {w : List ℕ} {lo hi : ℕ} where
           not-meant-rows = λ _. refl;
         }
 
-    pub guards-denied : Ask w lo hi asked.Denied → (r : GuardAnswer) → r ≡ of-index (checked-answer col bs is ds) (guard.Done Denied 0 0 0 0) → Guards w col bs is ds lo hi rows r w rows
+    pub guards-denied : Ask w lo hi asked.Denied → (r : GuardAnswer) → r ≡ of-index (checked-answer readings col bs is ds) (guard.Done Denied 0 0 0 0) → Guards w col bs is ds lo hi rows r w rows
     guards-denied p r q =
         let meant : ((m : Memory) → Filter w m → ⊥) → ⊥ = λ bad. let e = p .not-meant bad in let z : _≡_ {A = ℕ} 0 1 = cc in omega arith in
         record {
@@ -320,12 +320,12 @@ module _ (col bs : List ℤ) (is ds : List ℕ) (lo hi space : ℕ) (m : Memory)
       memory-by true = refl
       memory-by false = refl
 
-module _ {w : List ℕ} {lo hi : ℕ} (l : Looks w lo hi) {col bs : List ℤ} {is ds rows : List ℕ} {x : SearchAnswer} {rows′ : List ℕ} (p : Searches col bs is ds (pos lo) (pos hi) rows x rows′) where
+module _ {w : List ℕ} {lo hi : ℕ} (l : Looks w lo hi) {col bs : List ℤ} {is ds rows : List ℕ} {x : SearchAnswer} {rows′ : List ℕ} (p : Searches readings col bs is ds (pos lo) (pos hi) rows x rows′) where
   abbrev found : Answer
   found = search-by readings bs ds is col (pos lo) (pos hi)
 
-  searched-as : x ≡ by-check (checked-answer col bs is ds) (search-room found (length rows))
-  searched-as = p .answers ∙ search-checked col bs is ds (pos lo) (pos hi) (length rows) ∙ ap (λ (b : Bool). by-check (checked-answer col bs is ds) (cond b searching.LowAboveHigh (search-room found (length rows)))) (le-ltb hi lo (l .order))
+  searched-as : x ≡ by-check (checked-answer readings col bs is ds) (search-room found (length rows))
+  searched-as = p .answers ∙ search-checked readings col bs is ds (pos lo) (pos hi) (length rows) ∙ ap (λ (b : Bool). by-check (checked-answer readings col bs is ds) (cond b searching.LowAboveHigh (search-room found (length rows)))) (le-ltb hi lo (l .order))
 
   pub sought-by : (r : GuardAnswer) (w′ : List ℕ) → ((m : Memory) → Filter w m → (r ≡ answer-of x (guarded readings m bs ds is col lo hi .outcome)) × (w′ ≡ wordsAfter (guard-number r) w (guarded readings m bs ds is col lo hi .memory))) → Sought w col bs is ds lo hi rows r w′ rows′
   sought-by r w′ s = record { answers = says; words = λ m f. s m f .1; rows-after = lists }
@@ -333,10 +333,10 @@ module _ {w : List ℕ} {lo hi : ℕ} (l : Looks w lo hi) {col bs : List ℤ} {i
       is-found : (m : Memory) → Filter w m → guarded readings m bs ds is col lo hi .answer ≡ found
       is-found m f = look-answer col bs is ds lo hi (length rows) m (l .not-all m f)
 
-      says : (m : Memory) → Filter w m → r ≡ of-index (checked-answer col bs is ds) (guard-room (guarded readings m bs ds is col lo hi .outcome) (guarded readings m bs ds is col lo hi .answer) (length rows))
+      says : (m : Memory) → Filter w m → r ≡ of-index (checked-answer readings col bs is ds) (guard-room (guarded readings m bs ds is col lo hi .outcome) (guarded readings m bs ds is col lo hi .answer) (length rows))
       says m f =
           let o : Outcome = guarded readings m bs ds is col lo hi .outcome in
-          s m f .0 ∙ ap (λ (y : SearchAnswer). answer-of y o) searched-as ∙ answer-room (checked-answer col bs is ds) o found (length rows) ∙ sym (ap (λ (a : Answer). of-index (checked-answer col bs is ds) (guard-room o a (length rows))) (is-found m f))
+          s m f .0 ∙ ap (λ (y : SearchAnswer). answer-of y o) searched-as ∙ answer-room (checked-answer readings col bs is ds) o found (length rows) ∙ sym (ap (λ (a : Answer). of-index (checked-answer readings col bs is ds) (guard-room o a (length rows))) (is-found m f))
 
       lists : (m : Memory) → Filter w m → rows′ ≡ after (guard-number r) (guarded readings m bs ds is col lo hi .answer .ids) rows
       lists m f =
@@ -349,7 +349,7 @@ module _ {w : List ℕ} {lo hi : ℕ} (l : Looks w lo hi) {col bs : List ℤ} {i
 
   module _ (n s e c : ℕ) (is-done : x ≡ searching.Done n s e c) where
     row-count : n ≡ length (found .ids)
-    row-count = done-count (checked-answer col bs is ds) found (length rows) n s e c (sym is-done ∙ searched-as)
+    row-count = done-count (checked-answer readings col bs is ds) found (length rows) n s e c (sym is-done ∙ searched-as)
 
     -- rows found
     pub sought-found : (n ≡ 0 → ⊥) → Sought w col bs is ds lo hi rows (guard.Done Found n s e c) w rows′

@@ -46,22 +46,22 @@ use Rattle.guarded_search.proofs.Only.{guards-refused}
 use Rattle.guarded_search.proofs.Sound.{denied-empty, search-denied-empty}
 
 -- with the index that build left, the fronts of the three lent spaces, the range search lists what a plain scan lists
-own-scan : {col bs bs′ : List ℤ} {is ds is′ ds′ : List ℕ} {b i d : ℕ} → InKind readings col → Builds col bs is ds (build.Done b i d) bs′ is′ ds′ → (low high : ℤ) → search-by readings (take b bs′) (take d ds′) (take i is′) col low high .ids ≡ scan readings low high 0 col
+own-scan : {col bs bs′ : List ℤ} {is ds is′ ds′ : List ℕ} {b i d : ℕ} → InKind readings col → Builds readings col bs is ds (build.Done b i d) bs′ is′ ds′ → (low high : ℤ) → search-by readings (take b bs′) (take d ds′) (take i is′) col low high .ids ≡ scan readings low high 0 col
 own-scan {col} kind p low high = let a = builds-all p in rw (a .borders-front, a .imprints-front, a .dictionary-front) (built-scan readings (lit< tt) col low high kind)
 
 -- ---- DEMAND 1: every call ends and is safe, which is what it is for a call to be proved; and an answer other than 0 changes no lent word.
 -- (Ask, departure and read are lent the words for reading alone.)
 
-pub demand-1-build : {col bs bs′ : List ℤ} {is ds is′ ds′ : List ℕ} {r : BuildAnswer} → Builds col bs is ds r bs′ is′ ds′ → (numbered (build-number r) ≡ 0 → ⊥) → (bs′ ≡ bs) × (is′ ≡ is) × (ds′ ≡ ds)
+pub demand-1-build : {col bs bs′ : List ℤ} {is ds is′ ds′ : List ℕ} {r : BuildAnswer} → Builds readings col bs is ds r bs′ is′ ds′ → (numbered (build-number r) ≡ 0 → ⊥) → (bs′ ≡ bs) × (is′ ≡ is) × (ds′ ≡ ds)
 demand-1-build p ne = builds-keeps p ne
 
-pub demand-1-pack : {ws is ds is′ ds′ : List ℕ} {bs : List ℤ} {r : PackAnswer} → Packs ws bs is ds r is′ ds′ → (numbered (pack-number r) ≡ 0 → ⊥) → (is′ ≡ is) × (ds′ ≡ ds)
+pub demand-1-pack : {ws is ds is′ ds′ : List ℕ} {bs : List ℤ} {r : PackAnswer} → Packs readings ws bs is ds r is′ ds′ → (numbered (pack-number r) ≡ 0 → ⊥) → (is′ ≡ is) × (ds′ ≡ ds)
 demand-1-pack p ne = packs-keeps p ne
 
-pub demand-1-unpack : {is ds ws ws′ : List ℕ} {bs : List ℤ} {lines : ℕ} {r : UnpackAnswer} → Unpacks bs is ds lines ws r ws′ → (numbered (unpack-number r) ≡ 0 → ⊥) → ws′ ≡ ws
+pub demand-1-unpack : {is ds ws ws′ : List ℕ} {bs : List ℤ} {lines : ℕ} {r : UnpackAnswer} → Unpacks readings bs is ds lines ws r ws′ → (numbered (unpack-number r) ≡ 0 → ⊥) → ws′ ≡ ws
 demand-1-unpack p ne = unpacks-keeps p ne
 
-pub demand-1-search : {col bs : List ℤ} {is ds rows rows′ : List ℕ} {low high : ℤ} {r : SearchAnswer} → Searches col bs is ds low high rows r rows′ → (numbered (search-number r) ≡ 0 → ⊥) → rows′ ≡ rows
+pub demand-1-search : {col bs : List ℤ} {is ds rows rows′ : List ℕ} {low high : ℤ} {r : SearchAnswer} → Searches readings col bs is ds low high rows r rows′ → (numbered (search-number r) ≡ 0 → ⊥) → rows′ ≡ rows
 demand-1-search p ne = searches-keeps p ne
 
 pub demand-1-fresh : {levels room : ℕ} {w w′ : List ℕ} {r : Made} → Fresh levels room w r w′ → (madeNumber r ≡ 0 → ⊥) → w′ ≡ w
@@ -85,18 +85,18 @@ demand-1-guarded p ne = guards-refused p ne
 pub demand-2-rows :
     {col bs bs′ : List ℤ} {is ds is′ ds′ rows rows′ : List ℕ} {b i d : ℕ} {low high : ℤ} {r : SearchAnswer} →
     InKind readings col →
-    Builds col bs is ds (build.Done b i d) bs′ is′ ds′ →
+    Builds readings col bs is ds (build.Done b i d) bs′ is′ ds′ →
     ltZ high low ≡ false →
     length (scan readings low high 0 col) ≤ length rows →
-    Searches col (take b bs′) (take i is′) (take d ds′) low high rows r rows′ →
-    Lists-the-scan col low high r rows′
-demand-2-rows kind p order room q = searches-built p q kind order room
+    Searches readings col (take b bs′) (take i is′) (take d ds′) low high rows r rows′ →
+    Lists-the-scan readings col low high r rows′
+demand-2-rows kind p order room q = searches-built p q (lit< tt) kind order room
 
 -- and so does every search with both that is done, denied ones among them, in any list of searches over an unchanged column, from a fresh filter of any room
 pub demand-2-exact :
     {col bs bs′ : List ℤ} {is ds is′ ds′ w w′ : List ℕ} {b i d k room : ℕ} {r : Made} (ts : List Turn) →
     InKind readings col →
-    Builds col bs is ds (build.Done b i d) bs′ is′ ds′ →
+    Builds readings col bs is ds (build.Done b i d) bs′ is′ ds′ →
     Fresh k room w r w′ →
     madeNumber r ≡ 0 →
     Searching col (take b bs′) (take i is′) (take d ds′) w′ ts →
@@ -118,7 +118,7 @@ demand-2-search-denied lo hi n s e c h p = search-denied-empty lo hi n s e c h p
 pub demand-3 :
     {col bs bs′ : List ℤ} {is ds is′ ds′ w w′ : List ℕ} {b i d k room : ℕ} {r : Made} (ts : List Turn) →
     InKind readings col →
-    Builds col bs is ds (build.Done b i d) bs′ is′ ds′ →
+    Builds readings col bs is ds (build.Done b i d) bs′ is′ ds′ →
     Fresh k room w r w′ →
     madeNumber r ≡ 0 →
     k * different (2 ^ k) (keys k col) ≤ room →

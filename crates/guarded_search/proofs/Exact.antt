@@ -58,13 +58,13 @@ module _ (col bs : List ℤ) (is ds : List ℕ) (own : (lo hi : ℕ) → search-
     lists : (rows′ : List ℕ) → rows′ ≡ after (guard-number (guard-answer col bs is ds lo hi (length rows) m)) (guarded readings m bs ds is col lo hi .answer .ids) rows → Lists (scan readings (pos lo) (pos hi) 0 col) rows′ (guard-answer col bs is ds lo hi (length rows) m)
     lists rows′ q = go (outside m lo) (outside m hi) refl (ltb hi lo) q
       where
-        go : (a b : Bool) → outside m hi ≡ b → (c : Bool) → let s = guarded readings m bs ds is col lo hi in let r = cond (a || b) guard.NoKey (cond c guard.LowAboveHigh (of-index (checked-answer col bs is ds) (guard-room (s .outcome) (s .answer) (length rows)))) in rows′ ≡ after (guard-number r) (s .answer .ids) rows → Lists (scan readings (pos lo) (pos hi) 0 col) rows′ r
+        go : (a b : Bool) → outside m hi ≡ b → (c : Bool) → let s = guarded readings m bs ds is col lo hi in let r = cond (a || b) guard.NoKey (cond c guard.LowAboveHigh (of-index (checked-answer readings col bs is ds) (guard-room (s .outcome) (s .answer) (length rows)))) in rows′ ≡ after (guard-number r) (s .answer .ids) rows → Lists (scan readings (pos lo) (pos hi) 0 col) rows′ r
         go true b e c q = tt
         go false true e c q = tt
         go false false e true q = tt
         go false false e false q =
             let a : Answer = guarded readings m bs ds is col lo hi .answer in
-            index-lists (scan readings (pos lo) (pos hi) 0 col) (a .ids) rows rows′ (checked-answer col bs is ds) (guarded readings m bs ds is col lo hi .outcome) (a .skips) (a .wholes) (a .compares) (ltb (length rows) (length (a .ids))) (ids-are (leb-false (2 ^ m .levels) hi e)) q
+            index-lists (scan readings (pos lo) (pos hi) 0 col) (a .ids) rows rows′ (checked-answer readings col bs is ds) (guarded readings m bs ds is col lo hi .outcome) (a .skips) (a .wholes) (a .compares) (ltb (length rows) (length (a .ids))) (ids-are (leb-false (2 ^ m .levels) hi e)) q
 
   pub exact : (ts : List Turn) (w : List ℕ) (m : Memory) → Filter w m → Calm (m .levels) (keys (m .levels) col) (m .set) → Searching col bs is ds w ts → All-exact col ts
   exact [] w m f c p = tt

@@ -118,11 +118,11 @@ module _ (col bs : List ℤ) (is ds : List ℕ) (lo hi space : ℕ) (m : Memory)
   pub became : Became (guard-answer col bs is ds lo hi space m) (guarded readings m bs ds is col lo hi)
   became = go (outside m lo) (outside m hi) refl (ltb hi lo) refl
     where
-      go : (a b : Bool) → outside m hi ≡ b → (c : Bool) → ltb hi lo ≡ c → Became (cond (a || b) guard.NoKey (cond c guard.LowAboveHigh (of-index (checked-answer col bs is ds) (into (guarded readings m bs ds is col lo hi))))) (guarded readings m bs ds is col lo hi)
+      go : (a b : Bool) → outside m hi ≡ b → (c : Bool) → ltb hi lo ≡ c → Became (cond (a || b) guard.NoKey (cond c guard.LowAboveHigh (of-index (checked-answer readings col bs is ds) (into (guarded readings m bs ds is col lo hi))))) (guarded readings m bs ds is col lo hi)
       go true b q c r = stays refl refl (λ e. absurd (omega arith))
       go false true q c r = stays refl refl (λ e. absurd (omega arith))
       go false false q true r = stays refl refl (λ e. absurd (omega arith))
-      go false false q false r = checked (leb-false (2 ^ m .levels) hi q) (ltb-false hi lo r) (checked-answer col bs is ds)
+      go false false q false r = checked (leb-false (2 ^ m .levels) hi q) (ltb-false hi lo r) (checked-answer readings col bs is ds)
 
 -- and the other way round, for a range of keys
 pub none-scan : (k : Kind) (lo hi levels r : ℕ) (col : List ℤ) → hi < 2 ^ levels → some-in lo hi (keys levels col) ≡ false → scan k (pos lo) (pos hi) r col ≡ []

@@ -159,8 +159,8 @@ module _ (n s w c : ℕ) where
       said m f =
           let g : Result = guarded readings m bs ds is col lo hi in
           let a : Answer = g .answer in
-          let t = range-tests (outside m lo || outside m hi) (ltb hi lo) (of-index (checked-answer col bs is ds) (guard-room (g .outcome) a (length rows))) (p .kept .told .meant m f) in
-          let v = index-tests (checked-answer col bs is ds) (guard-room (g .outcome) a (length rows)) (t .2) in
+          let t = range-tests (outside m lo || outside m hi) (ltb hi lo) (of-index (checked-answer readings col bs is ds) (guard-room (g .outcome) a (length rows))) (p .kept .told .meant m f) in
+          let v = index-tests (checked-answer readings col bs is ds) (guard-room (g .outcome) a (length rows)) (t .2) in
           let o = room-tests (ltb (length rows) (length (a .ids))) (length (a .ids)) (g .outcome) (length (a .ids)) (a .skips) (a .wholes) (a .compares) v in
           rw (t .0, t .1, outcome-denied col bs is ds lo hi (length rows) m o)
 

@@ -67,7 +67,7 @@ of-index checking.NoIndex a = guard.NoIndex
 abbrev pub guard-answer : List ℤ → List ℤ → List ℕ → List ℕ → ℕ → ℕ → ℕ → Memory → GuardAnswer
 guard-answer col bs is ds lo hi space m =
     let s = guarded readings m bs ds is col lo hi in
-    ofRange guard.NoKey guard.LowAboveHigh lo hi m (of-index (checked-answer col bs is ds) (guard-room (s .outcome) (s .answer) space))
+    ofRange guard.NoKey guard.LowAboveHigh lo hi m (of-index (checked-answer readings col bs is ds) (guard-room (s .outcome) (s .answer) space))
 
 -- The search of the keys lo to hi, over the filter words w, the column and its index, into the row space rows. Number 0 makes the words mean what the filter remembers
 -- afterwards, and puts the rows listed at the front of the row space; any other changes nothing.

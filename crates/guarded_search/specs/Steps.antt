@@ -67,6 +67,6 @@ pub record Missed (w : List ℕ) (col : List ℤ) (lo hi : ℕ) (r : Outcome) (w
 
 -- what a look answers, and filter words and rows afterwards
 pub record Sought (w : List ℕ) (col bs : List ℤ) (is ds : List ℕ) (lo hi : ℕ) (rows : List ℕ) (r : GuardAnswer) (w′ rows′ : List ℕ) : Type 0 where
-  pub answers : (m : Memory) → Filter w m → r ≡ of-index (checked-answer col bs is ds) (guard-room (guarded readings m bs ds is col lo hi .outcome) (guarded readings m bs ds is col lo hi .answer) (length rows))
+  pub answers : (m : Memory) → Filter w m → r ≡ of-index (checked-answer readings col bs is ds) (guard-room (guarded readings m bs ds is col lo hi .outcome) (guarded readings m bs ds is col lo hi .answer) (length rows))
   pub words : (m : Memory) → Filter w m → w′ ≡ wordsAfter (guard-number r) w (guarded readings m bs ds is col lo hi .memory)
   pub rows-after : (m : Memory) → Filter w m → rows′ ≡ after (guard-number r) (guarded readings m bs ds is col lo hi .answer .ids) rows

@@ -8,6 +8,7 @@ use range_filter::Reading;
 ghost use mathlib.Core.Path.{_≡_};
 ghost use Prim.Native.Nat.{_^_, _≤_, _<_, min, max};
 ghost use lib.IntN.{pos};
+ghost use Rattle.bins.specs.Bins.{readings};
 ghost use Rattle.column_index.specs.Promise.{checked-answer};
 ghost use Rattle.guarded_search.specs.Promise.{of-index, Guards};
 ghost use Rattle.guarded_search.specs.Steps.{narrow-key, narrow, narrow-all, widest, taught-outcome, Looks, Missed, Sought};
@@ -161,9 +162,9 @@ fn learn_gap(words: &mut [u32], column: &[i32], low: Key, high: Key) -> Outcome
 
 // A range that the filter denies: no rows, all counts 0.
 fn denied(column: &[i32], borders: &[i32], imprints: &[u64], dictionary: &[u32]) -> GuardAnswer
-    ensures { λ r. ⌜ r ≡ of-index (checked-answer (now (column .entry)) (now (borders .entry)) (now (imprints .entry)) (now (dictionary .entry))) (Done Denied 0 0 0 0) ⌝ }
+    ensures { λ r. ⌜ r ≡ of-index (checked-answer readings (now (column .entry)) (now (borders .entry)) (now (imprints .entry)) (now (dictionary .entry))) (Done Denied 0 0 0 0) ⌝ }
 {
-    match column_index::checked(column, borders, imprints, dictionary) {
+    match reading_index::checked(column, borders, imprints, dictionary) {
         IndexCheck::TooLong => GuardAnswer::TooLong,
         IndexCheck::BadBorders => GuardAnswer::BadBorders,
         IndexCheck::NoIndex => GuardAnswer::NoIndex,
@@ -193,7 +194,7 @@ fn look(
 {
     let first = value_of(low.0);
     let last = value_of(high.0);
-    match column_index::search(column, borders, imprints, dictionary, first, last, rows) {
+    match reading_index::search(column, borders, imprints, dictionary, first, last, rows) {
         SearchAnswer::TooLong => GuardAnswer::TooLong,
         SearchAnswer::BadBorders => GuardAnswer::BadBorders,
         SearchAnswer::NoIndex => GuardAnswer::NoIndex,

@@ -115,7 +115,7 @@ fn search(
     let mut rows = [0u32; 2049];
     text(b"    search:");
     found(
-        column_index::search(column, borders, imprints, dictionary, low, high, &mut rows),
+        reading_index::search(column, borders, imprints, dictionary, low, high, &mut rows),
         &rows,
     );
 }
@@ -166,7 +166,7 @@ fn column_of(column: &[i32]) {
     let mut imprints = [0u64; 129];
     let mut dictionary = [0u32; 129];
     text(b"  build:");
-    let answer = column_index::made::build(column, &mut borders, &mut imprints, &mut dictionary);
+    let answer = reading_index::made::build(column, &mut borders, &mut imprints, &mut dictionary);
     built(answer);
     if let BuildAnswer::Done {
         borders: b,
@@ -274,21 +274,27 @@ fn packs(borders: &[i32], fallen: &[i32]) {
     let unfit = [2u64, 8, 4];
     let mut imprints = [0u64; 3];
     let mut dictionary = [0u32; 3];
-    packed(column_index::made::pack(&list, borders, &mut imprints, &mut dictionary));
-    packed(column_index::made::pack(&list, fallen, &mut imprints, &mut dictionary));
-    packed(column_index::made::pack(&unfit, borders, &mut imprints, &mut dictionary));
-    packed(column_index::made::pack(&list, borders, space_u64(&mut imprints, 1), &mut dictionary));
-    packed(column_index::made::pack(&list, borders, &mut imprints, space_u32(&mut dictionary, 1)));
+    packed(reading_index::made::pack(&list, borders, &mut imprints, &mut dictionary));
+    packed(reading_index::made::pack(&list, fallen, &mut imprints, &mut dictionary));
+    packed(reading_index::made::pack(&unfit, borders, &mut imprints, &mut dictionary));
+    packed(reading_index::made::pack(&list, borders, space_u64(&mut imprints, 1), &mut dictionary));
+    packed(reading_index::made::pack(&list, borders, &mut imprints, space_u32(&mut dictionary, 1)));
 }
 
 // Every number of unpack.
 fn unpacks(borders: &[i32], fallen: &[i32], imprints: &[u64], dictionary: &[u32]) {
     let mut back = [0u64; 3];
-    unpacked(column_index::made::unpack(borders, imprints, dictionary, 3, &mut back));
-    unpacked(column_index::made::unpack(borders, imprints, dictionary, 1048577, &mut back));
-    unpacked(column_index::made::unpack(fallen, imprints, dictionary, 3, &mut back));
-    unpacked(column_index::made::unpack(borders, imprints, dictionary, 4, &mut back));
-    unpacked(column_index::made::unpack(borders, imprints, dictionary, 3, space_u64(&mut back, 2)));
+    unpacked(reading_index::made::unpack(borders, imprints, dictionary, 3, &mut back));
+    unpacked(reading_index::made::unpack(borders, imprints, dictionary, 1048577, &mut back));
+    unpacked(reading_index::made::unpack(fallen, imprints, dictionary, 3, &mut back));
+    unpacked(reading_index::made::unpack(borders, imprints, dictionary, 4, &mut back));
+    unpacked(reading_index::made::unpack(
+        borders,
+        imprints,
+        dictionary,
+        3,
+        space_u64(&mut back, 2),
+    ));
 }
 
 // Every number of a step.
@@ -312,7 +318,7 @@ fn refusals(borders: &[i32], fallen: &[i32], imprints: &[u64], dictionary: &[u32
     let mut rows = [0u32; 31];
     text(b"    search:");
     found(
-        column_index::search(&column, borders, imprints, dictionary, 5, 19, &mut rows),
+        reading_index::search(&column, borders, imprints, dictionary, 5, 19, &mut rows),
         &rows,
     );
 }
@@ -337,28 +343,28 @@ fn short_spaces() {
     let mut imprints = [0u64; 1];
     let mut dictionary = [0u32; 1];
     text(b"build:");
-    built(column_index::made::build(
+    built(reading_index::made::build(
         &column,
         space_i32(&mut borders, 1),
         &mut imprints,
         space_u32(&mut dictionary, 0),
     ));
     text(b"build:");
-    built(column_index::made::build(
+    built(reading_index::made::build(
         &column,
         &mut borders,
         space_u64(&mut imprints, 0),
         &mut dictionary,
     ));
     text(b"build:");
-    built(column_index::made::build(
+    built(reading_index::made::build(
         &column,
         &mut borders,
         &mut imprints,
         space_u32(&mut dictionary, 0),
     ));
     text(b"build:");
-    built(column_index::made::build(&column, &mut borders, &mut imprints, &mut dictionary));
+    built(reading_index::made::build(&column, &mut borders, &mut imprints, &mut dictionary));
 }
 
 fn main() {

@@ -13,12 +13,12 @@ use borrow.Author.Tests.{le-ltb, le-leb}
 use Rattle.words.specs.Lists.{ceil, after}
 use Rattle.words.specs.Numbers.{numbered}
 use Rattle.words.proofs.ListLaws.{take-filled}
-use Rattle.bins.specs.Bins.{readings, borders, good-borders, rising}
+use Rattle.bins.specs.Bins.{most-rows, readings, borders, good-borders, rising}
 use Rattle.bins.proofs.BorderLaws.{borders-count, borders-rising}
 use Rattle.dictionary.specs.Dictionary.{unpack}
 use Rattle.column_index.specs.Index.{built, line-count}
 use Rattle.run_search.specs.Search.{search-by}
-use Rattle.column_index.specs.Promise.{Builds, build-answer, build-number, Searches, search-answer, search-number, most-rows}
+use Rattle.column_index.specs.Promise.{Builds, build-answer, build-number, Searches, search-answer, search-number}
 use Rattle.column_index.specs.declared.BuildAnswer.{BuildAnswer}
 use Rattle.column_index.specs.declared.BuildAnswer.the-variants as build
 use Rattle.column_index.specs.declared.SearchAnswer.{SearchAnswer}
@@ -36,14 +36,14 @@ use Rattle.range_text.proofs.LengthLaws.{rises-count, rises-below, sear
 lines-few : (n : ℕ) → n ≤ 8192 → ceil n 16 ≤ 512
 lines-few n h = omega arith
 
-pub own-build : (col : List ℤ) → length col ≤ 8192 → build-answer col 63 512 512 ≡ build.Done (length (borders readings col)) (length (built readings col .imps)) (length (built readings col .dict))
+pub own-build : (col : List ℤ) → length col ≤ 8192 → build-answer readings col 63 512 512 ≡ build.Done (length (borders readings col)) (length (built readings col .imps)) (length (built readings col .dict))
 unfolding build-answer
 own-build col h =
     let l = lines-few (length col) h in
     let a : length col ≤ most-rows = omega arith in
     let b : length (borders readings col) ≤ 63 = borders-count readings col in
-    let i : length (built readings col .imps) ≤ 512 = omega (arith, column-imps-short (borders readings col) col) in
-    let d : length (built readings col .dict) ≤ 512 = omega (arith, column-dict-short (borders readings col) col) in
+    let i : length (built readings col .imps) ≤ 512 = omega (arith, column-imps-short readings (borders readings col) col) in
+    let d : length (built readings col .dict) ≤ 512 = omega (arith, column-dict-short readings (borders readings col) col) in
     rw (le-ltb most-rows (length col) a, le-ltb 63 (length (borders readings col)) b, le-ltb 512 (length (built readings col .imps)) i, le-ltb 512 (length (built readings col .dict)) d)
 
 -- ---- search
@@ -64,7 +64,7 @@ module _ (col : List ℤ) (low high : ℤ) (few : length col ≤ 8192) where
       let l = lines-few (length col) few in
       (omega arith, omega arith, omega (arith, borders-count readings col), omega (arith, c .0), omega (arith, c .1), omega (arith, c .0))
 
-  pub own-search : search-answer col (borders readings col) (built readings col .imps) (built readings col .dict) low high 8192 ≡ cond (ltZ high low) searching.LowAboveHigh (searching.Done (length (found-in col low high .ids)) (found-in col low high .skips) (found-in col low high .wholes) (found-in col low high .compares))
+  pub own-search : search-answer readings col (borders readings col) (built readings col .imps) (built readings col .dict) low high 8192 ≡ cond (ltZ high low) searching.LowAboveHigh (searching.Done (length (found-in col low high .ids)) (found-in col low high .skips) (found-in col low high .wholes) (found-in col low high .compares))
   unfolding search-answer
   own-search =
       let a : length col ≤ most-rows = omega arith in
@@ -92,9 +92,9 @@ cases-number : (o : Bool) (a b c d x : ℕ) → numbered (search-number (cond o 
 cases-number true a b c d x e = omega arith
 cases-number false a b c d x e = omega arith
 
-module _ {col bs : List ℤ} {is ds : List ℕ} {low high low′ high′ : ℤ} {rows : List ℕ} {r : SearchAnswer} {rows′ : List ℕ} (few : length col ≤ 8192) (space : length rows ≡ 8192) (eb : bs ≡ borders readings col) (ei : is ≡ built readings col .imps) (ed : ds ≡ built readings col .dict) (el : low′ ≡ low) (eh : high′ ≡ high) (p : Searches col bs is ds low′ high′ rows r rows′) where
+module _ {col bs : List ℤ} {is ds : List ℕ} {low high low′ high′ : ℤ} {rows : List ℕ} {r : SearchAnswer} {rows′ : List ℕ} (few : length col ≤ 8192) (space : length rows ≡ 8192) (eb : bs ≡ borders readings col) (ei : is ≡ built readings col .imps) (ed : ds ≡ built readings col .dict) (el : low′ ≡ low) (eh : high′ ≡ high) (p : Searches readings col bs is ds low′ high′ rows r rows′) where
   answer-is : r ≡ cond (ltZ high low) searching.LowAboveHigh (searching.Done (length (found-in col low high .ids)) (found-in col low high .skips) (found-in col low high .wholes) (found-in col low high .compares))
-  answer-is = p .answers ∙ (λ j. search-answer col (eb j) (ei j) (ed j) (el j) (eh j) (space j)) ∙ own-search col low high few
+  answer-is = p .answers ∙ (λ j. search-answer readings col (eb j) (ei j) (ed j) (el j) (eh j) (space j)) ∙ own-search col low high few
 
   rows-are : rows′ ≡ after (numbered (search-number r)) (found-in col low high .ids) rows
   rows-are = p .rows-after ∙ (λ j. after (numbered (search-number r)) (search-by readings (eb j) (ed j) (ei j) col (el j) (eh j) .ids) rows)
@@ -135,9 +135,9 @@ module _ {col bs : List ℤ} {is ds : List ℕ} {low high low′ high′ : ℤ} 
 cases-build : (r : BuildAnswer) (a b c x y z : ℕ) → r ≡ build.Done a b c → r ≡ build.Done x y z → (x ≡ a) × (y ≡ b) × (z ≡ c)
 cases-build r a b c x y z p q = ((cc), (cc), (cc))
 
-module _ {col bs : List ℤ} {is ds : List ℕ} {r : BuildAnswer} {bs′ : List ℤ} {is′ ds′ : List ℕ} (few : length col ≤ 8192) (sb : length bs ≡ 63) (si : length is ≡ 512) (sd : length ds ≡ 512) (p : Builds col bs is ds r bs′ is′ ds′) where
+module _ {col bs : List ℤ} {is ds : List ℕ} {r : BuildAnswer} {bs′ : List ℤ} {is′ ds′ : List ℕ} (few : length col ≤ 8192) (sb : length bs ≡ 63) (si : length is ≡ 512) (sd : length ds ≡ 512) (p : Builds readings col bs is ds r bs′ is′ ds′) where
   build-is : r ≡ build.Done (length (borders readings col)) (length (built readings col .imps)) (length (built readings col .dict))
-  build-is = p .answers ∙ (λ j. build-answer col (sb j) (si j) (sd j)) ∙ own-build col few
+  build-is = p .answers ∙ (λ j. build-answer readings col (sb j) (si j) (sd j)) ∙ own-build col few
 
   pub build-never : (x : ℕ) → numbered (build-number r) ≡ suc x → ⊥
   build-never x e = let z = sym (ap (λ (a : BuildAnswer). numbered (build-number a)) build-is) ∙ e in omega arith
@@ -147,7 +147,7 @@ module _ {col bs : List ℤ} {is ds : List ℕ} {r : BuildAnswer} {bs′ : List 
     fronts-few =
         let q = cases-build r (length (borders readings col)) (length (built readings col .imps)) (length (built readings col .dict)) b i d build-is e in
         let l = lines-few (length col) few in
-        (omega (arith, q .0, borders-count readings col), omega (arith, q .1, column-imps-short (borders readings col) col), omega (arith, q .2, column-dict-short (borders readings col) col))
+        (omega (arith, q .0, borders-count readings col), omega (arith, q .1, column-imps-short readings (borders readings col) col), omega (arith, q .2, column-dict-short readings (borders readings col) col))
 
-    pub fronts-are : Built-all col b i d bs′ is′ ds′
-    fronts-are = builds-all (subst (λ (a : BuildAnswer). Builds col bs is ds a bs′ is′ ds′) e p)
+    pub fronts-are : Built-all readings col b i d bs′ is′ ds′
+    fronts-are = builds-all (subst (λ (a : BuildAnswer). Builds readings col bs is ds a bs′ is′ ds′) e p)

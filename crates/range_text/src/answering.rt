@@ -38,7 +38,7 @@ fn searched_text(
     ensures { λ r. ⌜ Puts (now (out .entry)) 0 (range-text (now (column .entry)) low high) r (now (out .exit)) ⌝ }
 {
     let mut rows = [0u32; 8192];
-    let answer = column_index::search(column, borders, imprints, dictionary, low, high, &mut rows);
+    let answer = reading_index::search(column, borders, imprints, dictionary, low, high, &mut rows);
     match answer {
         SearchAnswer::Done {
             rows: n,
@@ -74,7 +74,7 @@ fn column_text(column: &[i32], low: i32, high: i32, out: &mut [u8]) -> usize
     let mut borders = [0i32; 63];
     let mut imprints = [0u64; 512];
     let mut dictionary = [0u32; 512];
-    let made = column_index::made::build(column, &mut borders, &mut imprints, &mut dictionary);
+    let made = reading_index::made::build(column, &mut borders, &mut imprints, &mut dictionary);
     match made {
         BuildAnswer::Done {
             borders: b,

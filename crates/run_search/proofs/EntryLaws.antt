@@ -9,12 +9,12 @@ use native.Mathlib.Numerals.{add-one}
 use lib.ListN.{length, take, drop, getD, replicate, length-append, length-drop, length-replicate, drop-of-length-le}
 use lib.Seq.{drop-drop, drop-cons, length-take-le}
 use lib.IntN.{ℤ}
-use Rattle.bins.specs.Bins.{Kind, readings}
+use Rattle.bins.specs.Bins.{Kind}
 use Rattle.dictionary.specs.Dictionary.{unpack, count-of, repeated}
 use Rattle.run_search.specs.Search.{Answer, nothing}
 use Rattle.dictionary.specs.Entries.{lines-in, uses}
 use Rattle.run_search.specs.Runs.{Asked, through, run-at, then, tally, plus, Readable, Within}
-use Rattle.run_search.specs.declared.rows.Tally.{Tally}
+use Rattle.run_search.specs.declared.Tally.{Tally}
 use Rattle.run_search.proofs.RunLaws.{through-append, through-run, plus-then, plus-nothing, unpack-entry, run-at-within, values-length}
 
 -- ---- the plain lines of an entry, one by one
@@ -33,14 +33,14 @@ pub lines-end : (k : Kind) (q : Asked) (col : List ℤ) (c : ℕ) (ws : List ℕ
 lines-end k q col c ws i h = ap (through k q col (c + i)) (drop-of-length-le ws h)
 
 -- lines add at most so many
-pub through-within : (q : Asked) (col : List ℤ) (ws : List ℕ) (t : Tally) (c : ℕ) → Within t c → Within (plus t (through readings q col c ws)) (c + length ws)
-through-within q col [] t c h = subst (λ (x : Tally). Within x (c + 0)) (sym (plus-nothing t)) (subst (λ (n : ℕ). Within t n) (sym (add-zero c)) h)
-through-within q col (w ∷ ws) t c h =
-    let a : through readings q col c (w ∷ ws) ≡ then (run-at readings q col w c 1) (through readings q col (c + 1) ws) = through-append readings q col (w ∷ []) ws c ∙ ap (λ (x : Answer). then x (through readings q col (c + 1) ws)) (through-run readings col q w 1 c) in
-    let one = run-at-within readings q col t w c 1 h (values-length col c 1) in
-    let more = through-within q col ws (plus t (run-at readings q col w c 1)) (c + 1) one in
+pub through-within : (k : Kind) (q : Asked) (col : List ℤ) (ws : List ℕ) (t : Tally) (c : ℕ) → Within k t c → Within k (plus t (through k q col c ws)) (c + length ws)
+through-within k q col [] t c h = subst (λ (x : Tally). Within k x (c + 0)) (sym (plus-nothing t)) (subst (λ (n : ℕ). Within k t n) (sym (add-zero c)) h)
+through-within k q col (w ∷ ws) t c h =
+    let a : through k q col c (w ∷ ws) ≡ then (run-at k q col w c 1) (through k q col (c + 1) ws) = through-append k q col (w ∷ []) ws c ∙ ap (λ (x : Answer). then x (through k q col (c + 1) ws)) (through-run k col q w 1 c) in
+    let one = run-at-within k q col t w c 1 h (values-length k col c 1) in
+    let more = through-within k q col ws (plus t (run-at k q col w c 1)) (c + 1) one in
     let e : c + 1 + length ws ≡ c + suc (length ws) = omega arith in
-    subst (λ (x : Tally). Within x (c + suc (length ws))) (plus-then t (run-at readings q col w c 1) (through readings q col (c + 1) ws) ∙ ap (plus t) (sym a)) (rw e at more)
+    subst (λ (x : Tally). Within k x (c + suc (length ws))) (plus-then t (run-at k q col w c 1) (through k q col (c + 1) ws) ∙ ap (plus t) (sym a)) (rw e at more)
 
 -- ---- entries
 
@@ -113,28 +113,28 @@ going-ends ds is e i h = ap (λ (l : List ℕ). unpack l (drop i is)) (drop-of-l
 -- ---- counting
 
 -- t is the tally of what is behind
-pub record Counting (q : Asked) (col : List ℤ) (ds is : List ℕ) (e i c : ℕ) (t : Tally) : Type 0 where
+pub record Counting (k : Kind) (q : Asked) (col : List ℤ) (ds is : List ℕ) (e i c : ℕ) (t : Tally) : Type 0 where
   pub going : Going ds is e i c
-  pub within : Within t c
-  pub in-all : plus t (through readings q col c (unpack (drop e ds) (drop i is))) ≡ plus (tally 0 0 0 0) (through readings q col 0 (unpack ds is))
+  pub within : Within k t c
+  pub in-all : plus t (through k q col c (unpack (drop e ds) (drop i is))) ≡ plus (tally 0 0 0 0) (through k q col 0 (unpack ds is))
 
-module _ (q : Asked) (col : List ℤ) (ds is : List ℕ) where
-  pub counting-starts : Readable ds is → Counting q col ds is 0 0 0 (tally 0 0 0 0)
+module _ (k : Kind) (q : Asked) (col : List ℤ) (ds is : List ℕ) where
+  pub counting-starts : Readable ds is → Counting k q col ds is 0 0 0 (tally 0 0 0 0)
   counting-starts r = record { going = going-starts ds is r; within = record { few-rows = omega arith; few-skipped = omega arith; few-whole = omega arith; few-compared = omega arith }; in-all = refl }
 
-  pub counting-next : (e i c : ℕ) (t : Tally) → Counting q col ds is e i c t → e < length ds → (t′ : Tally) → t′ ≡ plus t (through readings q col c (lines-in (getD ds e 0) (drop i is))) → Counting q col ds is (e + 1) (i + uses (getD ds e 0)) (c + count-of (getD ds e 0)) t′
+  pub counting-next : (e i c : ℕ) (t : Tally) → Counting k q col ds is e i c t → e < length ds → (t′ : Tally) → t′ ≡ plus t (through k q col c (lines-in (getD ds e 0) (drop i is))) → Counting k q col ds is (e + 1) (i + uses (getD ds e 0)) (c + count-of (getD ds e 0)) t′
   counting-next e i c t g h t′ eq =
       let x = going-next ds is e i c (g .going) h in
       let d = getD ds e 0 in
       let ws = lines-in d (drop i is) in
       let rest = unpack (drop (e + 1) ds) (drop (i + uses d) is) in
-      let split : through readings q col c (unpack (drop e ds) (drop i is)) ≡ then (through readings q col c ws) (through readings q col (c + count-of d) rest) =
-      ap (through readings q col c) (x .apart) ∙ through-append readings q col ws rest c ∙ ap (λ (n : ℕ). then (through readings q col c ws) (through readings q col (c + n) rest)) (x .as-many) in
+      let split : through k q col c (unpack (drop e ds) (drop i is)) ≡ then (through k q col c ws) (through k q col (c + count-of d) rest) =
+      ap (through k q col c) (x .apart) ∙ through-append k q col ws rest c ∙ ap (λ (n : ℕ). then (through k q col c ws) (through k q col (c + n) rest)) (x .as-many) in
       record {
         going = x .onward;
-        within = subst (λ (y : Tally). Within y (c + count-of d)) (sym eq) (subst (λ (n : ℕ). Within (plus t (through readings q col c ws)) (c + n)) (x .as-many) (through-within q col ws t c (g .within)));
-        in-all = ap (λ (y : Tally). plus y (through readings q col (c + count-of d) rest)) eq ∙ plus-then t (through readings q col c ws) (through readings q col (c + count-of d) rest) ∙ ap (plus t) (sym split) ∙ g .in-all;
+        within = subst (λ (y : Tally). Within k y (c + count-of d)) (sym eq) (subst (λ (n : ℕ). Within k (plus t (through k q col c ws)) (c + n)) (x .as-many) (through-within k q col ws t c (g .within)));
+        in-all = ap (λ (y : Tally). plus y (through k q col (c + count-of d) rest)) eq ∙ plus-then t (through k q col c ws) (through k q col (c + count-of d) rest) ∙ ap (plus t) (sym split) ∙ g .in-all;
       }
 
-  pub counting-ends : (e i c : ℕ) (t : Tally) → Counting q col ds is e i c t → length ds ≤ e → t ≡ plus (tally 0 0 0 0) (through readings q col 0 (unpack ds is))
-  counting-ends e i c t g h = sym (plus-nothing t) ∙ sym (ap (λ (ws : List ℕ). plus t (through readings q col c ws)) (going-ends ds is e i h)) ∙ g .in-all
+  pub counting-ends : (e i c : ℕ) (t : Tally) → Counting k q col ds is e i c t → length ds ≤ e → t ≡ plus (tally 0 0 0 0) (through k q col 0 (unpack ds is))
+  counting-ends e i c t g h = sym (plus-nothing t) ∙ sym (ap (λ (ws : List ℕ). plus t (through k q col c ws)) (going-ends ds is e i h)) ∙ g .in-all

@@ -4,21 +4,21 @@ use mathlib.Core.Path.{_≡_, refl, sym, _∙_, ap, ap₂, subst}
 use mathlib.Core.List.{List, [], _∷_, _++_}
 use mathlib.Core.Bool.{Bool, true, false, cond}
 use native.Mathlib.Omega.{arith}
-use native.Mathlib.Nat.{add-zero}
+use native.Mathlib.Nat.{add-zero, mul-le-mul-left}
 use native.Mathlib.Numerals.{add-one}
 use lib.ListN.{length, drop, getD, length-append, length-take, length-drop, drop-of-length-le}
 use lib.Seq.{drop-cons, sets, length-sets}
 use lib.IntN.{ℤ, pos}
 use Rattle.words.specs.Lists.{from}
 use Rattle.words.proofs.ListLaws.{sets-append, from-append, length-from}
-use Rattle.bins.specs.Bins.{Kind, readings}
+use Rattle.bins.specs.Bins.{Kind, most-lines}
 use Rattle.bins.specs.Masks.{matches}
 use Rattle.bins.specs.declared.Fate.{Fate}
 use Rattle.bins.specs.declared.Fate.the-variants.{Skipped, Whole, Compared}
 use Rattle.dictionary.specs.Dictionary.{unpack, count-of}
 use Rattle.run_search.specs.Search.{Answer, scan}
 use Rattle.dictionary.specs.Entries.{lines-in, uses}
-use Rattle.run_search.specs.Runs.{Asked, fate-in, values, through, run-of, run-at, Readable}
+use Rattle.run_search.specs.Runs.{Asked, fate-in, values, through, run-of, run-at, Readable, row-words}
 use Rattle.run_search.proofs.RunLaws.{through-append}
 use Rattle.run_search.proofs.EntryLaws.{Going, going-starts, going-next, going-ends, lines-turn, lines-end}
 
@@ -91,8 +91,8 @@ module _ (k : Kind) (q : Asked) (col : List ℤ) (w c n : ℕ) where
   compared-ids e = ap (λ (f : Fate). run-of k (q .low) (q .high) f (k .per * c) n (values k col c n) .ids) e
 
 -- the rows of lines that are there are rows of the column
-pub rows-end : (col : List ℤ) (c n : ℕ) → c ≤ 1048576 → length col ≤ 16777216 → 16 * c + length (values readings col c n) ≤ 16777216
-rows-end col c n h l = omega (arith, length-take (16 * n) (drop (16 * c) col), length-drop (16 * c) col)
+pub rows-end : (k : Kind) → k .per * most-lines k ≤ row-words → (col : List ℤ) (c n : ℕ) → c ≤ most-lines k → length col ≤ row-words → k .per * c + length (values k col c n) ≤ row-words
+rows-end k f col c n h l = omega (arith, mul-le-mul-left (k .per) h, length-take (k .per * n) (drop (k .per * c) col), length-drop (k .per * c) col)
 
 -- ---- lines and entries
 
@@ -103,41 +103,41 @@ pub lines-no-ids : (k : Kind) (q : Asked) (col : List ℤ) (c : ℕ) (ws : List 
 lines-no-ids k q col c ws i h = ap (λ (a : Answer). a .ids) (lines-end k q col c ws i h)
 
 -- e entries, i imprints and c lines are behind, and their rows are written
-pub record Filling (q : Asked) (col : List ℤ) (ds is rows₀ : List ℕ) (e i c : ℕ) (rows : List ℕ) (at : ℕ) : Type 0 where
+pub record Filling (k : Kind) (q : Asked) (col : List ℤ) (ds is rows₀ : List ℕ) (e i c : ℕ) (rows : List ℕ) (at : ℕ) : Type 0 where
   pub going : Going ds is e i c
-  pub listing : Listing rows₀ 0 (through readings q col 0 (unpack ds is) .ids) rows at (through readings q col c (unpack (drop e ds) (drop i is)) .ids)
+  pub listing : Listing rows₀ 0 (through k q col 0 (unpack ds is) .ids) rows at (through k q col c (unpack (drop e ds) (drop i is)) .ids)
 
-module _ (q : Asked) (col : List ℤ) (ds is rows₀ : List ℕ) where
-  pub filling-starts : Readable ds is → Filling q col ds is rows₀ 0 0 0 rows₀ 0
-  filling-starts r = record { going = going-starts ds is r; listing = listing-starts rows₀ 0 (through readings q col 0 (unpack ds is) .ids) }
+module _ (k : Kind) (q : Asked) (col : List ℤ) (ds is rows₀ : List ℕ) where
+  pub filling-starts : Readable ds is → Filling k q col ds is rows₀ 0 0 0 rows₀ 0
+  filling-starts r = record { going = going-starts ds is r; listing = listing-starts rows₀ 0 (through k q col 0 (unpack ds is) .ids) }
 
   -- the rows of the next entry come first
-  pub filling-apart : (e i c : ℕ) → Going ds is e i c → e < length ds → through readings q col c (unpack (drop e ds) (drop i is)) .ids ≡ through readings q col c (lines-in (getD ds e 0) (drop i is)) .ids ++ through readings q col (c + count-of (getD ds e 0)) (unpack (drop (e + 1) ds) (drop (i + uses (getD ds e 0)) is)) .ids
+  pub filling-apart : (e i c : ℕ) → Going ds is e i c → e < length ds → through k q col c (unpack (drop e ds) (drop i is)) .ids ≡ through k q col c (lines-in (getD ds e 0) (drop i is)) .ids ++ through k q col (c + count-of (getD ds e 0)) (unpack (drop (e + 1) ds) (drop (i + uses (getD ds e 0)) is)) .ids
   filling-apart e i c g h =
       let x = going-next ds is e i c g h in
       let d = getD ds e 0 in
       let ws = lines-in d (drop i is) in
       let rest = unpack (drop (e + 1) ds) (drop (i + uses d) is) in
-      ap (λ (l : List ℕ). through readings q col c l .ids) (x .apart)
-      ∙ ap (λ (a : Answer). a .ids) (through-append readings q col ws rest c)
-      ∙ ap (λ (n : ℕ). through readings q col c ws .ids ++ through readings q col (c + n) rest .ids) (x .as-many)
+      ap (λ (l : List ℕ). through k q col c l .ids) (x .apart)
+      ∙ ap (λ (a : Answer). a .ids) (through-append k q col ws rest c)
+      ∙ ap (λ (n : ℕ). through k q col c ws .ids ++ through k q col (c + n) rest .ids) (x .as-many)
 
-  pub filling-next : (e i c : ℕ) (rows : List ℕ) (at : ℕ) → Filling q col ds is rows₀ e i c rows at → e < length ds → (rows′ : List ℕ) → rows′ ≡ sets rows at (through readings q col c (lines-in (getD ds e 0) (drop i is)) .ids) → (at′ : ℕ) → at′ ≡ at + length (through readings q col c (lines-in (getD ds e 0) (drop i is)) .ids) → Filling q col ds is rows₀ (e + 1) (i + uses (getD ds e 0)) (c + count-of (getD ds e 0)) rows′ at′
+  pub filling-next : (e i c : ℕ) (rows : List ℕ) (at : ℕ) → Filling k q col ds is rows₀ e i c rows at → e < length ds → (rows′ : List ℕ) → rows′ ≡ sets rows at (through k q col c (lines-in (getD ds e 0) (drop i is)) .ids) → (at′ : ℕ) → at′ ≡ at + length (through k q col c (lines-in (getD ds e 0) (drop i is)) .ids) → Filling k q col ds is rows₀ (e + 1) (i + uses (getD ds e 0)) (c + count-of (getD ds e 0)) rows′ at′
   filling-next e i c rows at f h rows′ p at′ r =
       record {
         going = going-next ds is e i c (f .going) h .onward;
-        listing = listing-next rows₀ 0 (through readings q col 0 (unpack ds is) .ids) rows at (through readings q col c (unpack (drop e ds) (drop i is)) .ids) (f .listing) (through readings q col c (lines-in (getD ds e 0) (drop i is)) .ids) (through readings q col (c + count-of (getD ds e 0)) (unpack (drop (e + 1) ds) (drop (i + uses (getD ds e 0)) is)) .ids) (filling-apart e i c (f .going) h) rows′ p at′ r;
+        listing = listing-next rows₀ 0 (through k q col 0 (unpack ds is) .ids) rows at (through k q col c (unpack (drop e ds) (drop i is)) .ids) (f .listing) (through k q col c (lines-in (getD ds e 0) (drop i is)) .ids) (through k q col (c + count-of (getD ds e 0)) (unpack (drop (e + 1) ds) (drop (i + uses (getD ds e 0)) is)) .ids) (filling-apart e i c (f .going) h) rows′ p at′ r;
       }
 
-  pub filling-ends : (e i c : ℕ) (rows : List ℕ) (at : ℕ) → Filling q col ds is rows₀ e i c rows at → length ds ≤ e → rows ≡ sets rows₀ 0 (through readings q col 0 (unpack ds is) .ids)
-  filling-ends e i c rows at f h = listing-ends rows₀ 0 (through readings q col 0 (unpack ds is) .ids) rows at (through readings q col c (unpack (drop e ds) (drop i is)) .ids) (f .listing) (ap (λ (ws : List ℕ). through readings q col c ws .ids) (going-ends ds is e i h)) .0
+  pub filling-ends : (e i c : ℕ) (rows : List ℕ) (at : ℕ) → Filling k q col ds is rows₀ e i c rows at → length ds ≤ e → rows ≡ sets rows₀ 0 (through k q col 0 (unpack ds is) .ids)
+  filling-ends e i c rows at f h = listing-ends rows₀ 0 (through k q col 0 (unpack ds is) .ids) rows at (through k q col c (unpack (drop e ds) (drop i is)) .ids) (f .listing) (ap (λ (ws : List ℕ). through k q col c ws .ids) (going-ends ds is e i h)) .0
 
   -- the room for the next entry's rows
-  pub filling-room : (e i c : ℕ) (rows : List ℕ) (at : ℕ) → Filling q col ds is rows₀ e i c rows at → e < length ds → length (through readings q col 0 (unpack ds is) .ids) ≤ length rows₀ → at + length (through readings q col c (lines-in (getD ds e 0) (drop i is)) .ids) ≤ length rows
+  pub filling-room : (e i c : ℕ) (rows : List ℕ) (at : ℕ) → Filling k q col ds is rows₀ e i c rows at → e < length ds → length (through k q col 0 (unpack ds is) .ids) ≤ length rows₀ → at + length (through k q col c (lines-in (getD ds e 0) (drop i is)) .ids) ≤ length rows
   filling-room e i c rows at f h l =
-      let a = through readings q col c (lines-in (getD ds e 0) (drop i is)) .ids in
-      let b = through readings q col (c + count-of (getD ds e 0)) (unpack (drop (e + 1) ds) (drop (i + uses (getD ds e 0)) is)) .ids in
-      omega (arith, listing-room rows₀ 0 (through readings q col 0 (unpack ds is) .ids) rows at (through readings q col c (unpack (drop e ds) (drop i is)) .ids) (f .listing) (omega arith), ap length (filling-apart e i c (f .going) h), length-append a b)
+      let a = through k q col c (lines-in (getD ds e 0) (drop i is)) .ids in
+      let b = through k q col (c + count-of (getD ds e 0)) (unpack (drop (e + 1) ds) (drop (i + uses (getD ds e 0)) is)) .ids in
+      omega (arith, listing-room rows₀ 0 (through k q col 0 (unpack ds is) .ids) rows at (through k q col c (unpack (drop e ds) (drop i is)) .ids) (f .listing) (omega arith), ap length (filling-apart e i c (f .going) h), length-append a b)
 
 -- at the start of a loop, where nothing is behind
 pub from-starts : (rows : List ℕ) (at a n : ℕ) → Listing rows at (from a n) rows (at + 0) (from (a + 0) (n - 0))

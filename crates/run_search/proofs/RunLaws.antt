@@ -4,7 +4,7 @@ use mathlib.Core.Path.{_≡_, refl, sym, _∙_, ap, ap₂}
 use mathlib.Core.List.{List, [], _∷_, _++_, map, append-assoc, append-nil}
 use mathlib.Core.Bool.{Bool, true, false, cond}
 use native.Mathlib.Omega.{arith}
-use native.Mathlib.Nat.{add-zero, zero-add, mul-zero, mul-suc, mul-one}
+use native.Mathlib.Nat.{add-zero, zero-add, mul-zero, mul-suc, mul-one, mul-add}
 use native.Mathlib.Numerals.{add-one}
 use lib.Dec.{leb}
 use lib.ListN.{length, take, drop, getD, replicate, length-append, length-take, length-drop, drop-of-length-le}
@@ -13,7 +13,7 @@ use lib.IntN.{ℤ, pos}
 use borrow.Author.Tests.{leb-true, leb-false}
 use Rattle.words.specs.Lists.{from, ceil, pieces}
 use Rattle.words.proofs.ListLaws.{pieces-cons, pieces-nil, ceil-below, ceil-reach, from-append, length-from}
-use Rattle.bins.specs.Bins.{Kind, readings}
+use Rattle.bins.specs.Bins.{Kind}
 use Rattle.bins.specs.Masks.{matches}
 use Rattle.bins.specs.declared.Fate.{Fate}
 use Rattle.bins.specs.declared.Fate.the-variants.{Skipped, Whole, Compared}
@@ -21,7 +21,7 @@ use Rattle.dictionary.specs.Dictionary.{unpack, count-of, repeated}
 use Rattle.run_search.specs.Search.{scan, Answer, nothing, with-line, over, fates, search}
 use Rattle.dictionary.specs.Entries.{lines-in, uses}
 use Rattle.run_search.specs.Runs.{Asked, asking, fate-in, values, through, run-of, run-at, then, tally, plus, Within, row-at}
-use Rattle.run_search.specs.declared.rows.Tally.{Tally}
+use Rattle.run_search.specs.declared.Tally.{Tally}
 use Rattle.run_search.proofs.SearchLaws.{scan-append}
 
 answer-eq : (a b : Answer) → a .ids ≡ b .ids → a .skips ≡ b .skips → a .wholes ≡ b .wholes → a .compares ≡ b .compares → a ≡ b
@@ -165,10 +165,16 @@ scan-length k low high (v ∷ vs) r = go (matches k low high v) (scan-length k l
     go false h = omega arith
 
 -- a run of n lines adds at most n lines
-pub run-within : (k : Kind) (low high : ℤ) (f : Fate) (t : Tally) (c r n : ℕ) (vs : List ℤ) → Within t c → length vs ≤ 16 * n → Within (plus t (run-of k low high f r n vs)) (c + n)
-run-within k low high Skipped t c r n vs h l = record { few-rows = omega (arith, h .few-rows); few-skipped = omega (arith, h .few-skipped); few-whole = omega (arith, h .few-whole); few-compared = omega (arith, h .few-compared) }
-run-within k low high Whole t c r n vs h l = record { few-rows = omega (arith, h .few-rows, length-from (length vs) r); few-skipped = omega (arith, h .few-skipped); few-whole = omega (arith, h .few-whole); few-compared = omega (arith, h .few-compared) }
-run-within k low high Compared t c r n vs h l = record { few-rows = omega (arith, h .few-rows, scan-length k low high vs r); few-skipped = omega (arith, h .few-skipped); few-whole = omega (arith, h .few-whole); few-compared = omega (arith, h .few-compared) }
+pub run-within : (k : Kind) (low high : ℤ) (f : Fate) (t : Tally) (c r n : ℕ) (vs : List ℤ) → Within k t c → length vs ≤ k .per * n → Within k (plus t (run-of k low high f r n vs)) (c + n)
+run-within k low high f t c r n vs h l = go f
+  where
+    both : k .per * (c + n) ≡ k .per * c + k .per * n
+    both = mul-add (k .per) c n
+
+    go : (f : Fate) → Within k (plus t (run-of k low high f r n vs)) (c + n)
+    go Skipped = record { few-rows = omega (arith, both, h .few-rows); few-skipped = omega (arith, h .few-skipped); few-whole = omega (arith, h .few-whole); few-compared = omega (arith, both, h .few-compared) }
+    go Whole = record { few-rows = omega (arith, both, h .few-rows, length-from (length vs) r); few-skipped = omega (arith, h .few-skipped); few-whole = omega (arith, h .few-whole); few-compared = omega (arith, both, h .few-compared) }
+    go Compared = record { few-rows = omega (arith, both, h .few-rows, scan-length k low high vs r); few-skipped = omega (arith, h .few-skipped); few-whole = omega (arith, h .few-whole); few-compared = omega (arith, both, h .few-compared) }
 
 -- ---- parts
 
@@ -208,26 +214,26 @@ pub count-none : (k : Kind) (low high : ℤ) (vs : List ℤ) (i : ℕ) → lengt
 count-none k low high vs i h = ap (λ (l : List ℤ). length (scan k low high 0 l)) (drop-of-length-le vs h)
 
 -- the values of n lines, as a part of the column
-pub part-values : (col : List ℤ) (c n : ℕ) → take (row-at (length col) (c + n) - row-at (length col) c) (drop (row-at (length col) c) col) ≡ values readings col c n
-part-values col c n = go (leb (16 * c) (length col)) refl
+pub part-values : (k : Kind) (col : List ℤ) (c n : ℕ) → take (row-at k (length col) (c + n) - row-at k (length col) c) (drop (row-at k (length col) c) col) ≡ values k col c n
+part-values k col c n = go (leb (k .per * c) (length col)) refl
   where
-    go : (t : Bool) → leb (16 * c) (length col) ≡ t → take (row-at (length col) (c + n) - row-at (length col) c) (drop (row-at (length col) c) col) ≡ values readings col c n
+    go : (t : Bool) → leb (k .per * c) (length col) ≡ t → take (row-at k (length col) (c + n) - row-at k (length col) c) (drop (row-at k (length col) c) col) ≡ values k col c n
     go true t =
-        let l = leb-true (16 * c) (length col) t in
-        let a : row-at (length col) c ≡ 16 * c = omega arith in
-        let e : row-at (length col) (c + n) - row-at (length col) c ≡ min (16 * n) (length (drop (16 * c) col)) = omega (arith, length-drop (16 * c) col) in
-        ap₂ (λ (m b : ℕ). take m (drop b col)) e a ∙ take-min (16 * n) (drop (16 * c) col)
+        let l = leb-true (k .per * c) (length col) t in
+        let a : row-at k (length col) c ≡ k .per * c = omega arith in
+        let e : row-at k (length col) (c + n) - row-at k (length col) c ≡ min (k .per * n) (length (drop (k .per * c) col)) = omega (arith, mul-add (k .per) c n, length-drop (k .per * c) col) in
+        ap₂ (λ (m b : ℕ). take m (drop b col)) e a ∙ take-min (k .per * n) (drop (k .per * c) col)
     go false t =
-        let l = leb-false (16 * c) (length col) t in
-        let d : drop (row-at (length col) c) col ≡ [] = drop-of-length-le col {i = row-at (length col) c} (omega arith) in
-        let b : drop (16 * c) col ≡ [] = drop-of-length-le col {i = 16 * c} (omega arith) in
-        ap (take (row-at (length col) (c + n) - row-at (length col) c)) d ∙ take-nil (row-at (length col) (c + n) - row-at (length col) c) ∙ sym (ap (take (16 * n)) b ∙ take-nil (16 * n))
+        let l = leb-false (k .per * c) (length col) t in
+        let d : drop (row-at k (length col) c) col ≡ [] = drop-of-length-le col {i = row-at k (length col) c} (omega arith) in
+        let b : drop (k .per * c) col ≡ [] = drop-of-length-le col {i = k .per * c} (omega arith) in
+        ap (take (row-at k (length col) (c + n) - row-at k (length col) c)) d ∙ take-nil (row-at k (length col) (c + n) - row-at k (length col) c) ∙ sym (ap (take (k .per * n)) b ∙ take-nil (k .per * n))
 
-pub values-length : (col : List ℤ) (c n : ℕ) → length (values readings col c n) ≤ 16 * n
-values-length col c n = omega (arith, length-take (16 * n) (drop (16 * c) col))
+pub values-length : (k : Kind) (col : List ℤ) (c n : ℕ) → length (values k col c n) ≤ k .per * n
+values-length k col c n = omega (arith, length-take (k .per * n) (drop (k .per * c) col))
 
-pub values-within : (col : List ℤ) (c n : ℕ) → length (values readings col c n) ≤ length col
-values-within col c n = omega (arith, length-take (16 * n) (drop (16 * c) col), length-drop (16 * c) col)
+pub values-within : (k : Kind) (col : List ℤ) (c n : ℕ) → length (values k col c n) ≤ length col
+values-within k col c n = omega (arith, length-take (k .per * n) (drop (k .per * c) col), length-drop (k .per * c) col)
 
 -- ---- the three fates of a run, as the program counts them
 
@@ -247,5 +253,5 @@ module _ (k : Kind) (q : Asked) (col : List ℤ) (t : Tally) (w c n : ℕ) where
       sym (ap (λ (f : Fate). plus t (run-of k (q .low) (q .high) f (k .per * c) n (values k col c n))) e
       ∙ tally-eq _ _ (ap (λ (x : ℕ). t .rows + x) (scan-count k (q .low) (q .high) (values k col c n) (k .per * c) 0 ∙ sym h)) (add-zero (t .skipped)) (add-zero (t .whole)) (ap (λ (x : ℕ). t .compared + x) (sym g)))
 
-  pub run-at-within : Within t c → length (values k col c n) ≤ 16 * n → Within (plus t (run-at k q col w c n)) (c + n)
+  pub run-at-within : Within k t c → length (values k col c n) ≤ k .per * n → Within k (plus t (run-at k q col w c n)) (c + n)
   run-at-within = run-within k (q .low) (q .high) (fate-in q w) t c (k .per * c) n (values k col c n)

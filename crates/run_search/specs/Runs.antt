@@ -11,8 +11,7 @@ use Rattle.bins.specs.declared.Fate.the-variants.{Skipped, Whole, Compared}
 use Rattle.dictionary.specs.Dictionary.{count-of}
 use Rattle.dictionary.specs.Entries.{uses}
 use Rattle.run_search.specs.Search.{scan, Answer, nothing, with-line}
-use Rattle.run_search.specs.declared.rows.Ask.{Ask}
-use Rattle.run_search.specs.declared.rows.Tally.{Tally}
+use Rattle.run_search.specs.declared.Tally.{Tally}
 
 -- a range, and the masks of the bins that it is searched by
 pub record Asked : Type 0 where
@@ -25,9 +24,9 @@ pub record Asked : Type 0 where
 abbrev pub asking : Kind → List ℤ → ℤ → ℤ → Asked
 asking k bs low high = record { low = low; high = high; bin-count = bins bs; masked = mask k bs low high; inner-masked = inner k bs low high }
 
--- the same as the program holds it: of all 64 bits of a word
-abbrev pub asked-of : Ask → Asked
-asked-of q = record { low = q .low; high = q .high; bin-count = 64; masked = q .mask; inner-masked = q .inner }
+-- the same as a program holds it: of all 64 bits of a word
+abbrev pub held : ℤ → ℤ → ℕ → ℕ → Asked
+held low high m i = record { low = low; high = high; bin-count = 64; masked = m; inner-masked = i }
 
 -- what becomes of a line with imprint w
 abbrev pub fate-in : Asked → ℕ → Fate
@@ -68,13 +67,17 @@ abbrev pub Readable : List ℕ → List ℕ → Type 0
 Readable [] is = Unit {0}
 Readable (d ∷ ds) is = (1 ≤ count-of d) × (uses d ≤ length is) × Readable ds (drop (uses d) is)
 
--- the tally of at most c lines of 16 rows
-pub record Within (t : Tally) (c : ℕ) : Type 0 where
-  pub few-rows : t .rows ≤ 16 * c
+-- the tally of at most c lines
+pub record Within (k : Kind) (t : Tally) (c : ℕ) : Type 0 where
+  pub few-rows : t .rows ≤ k .per * c
   pub few-skipped : t .skipped ≤ c
   pub few-whole : t .whole ≤ c
-  pub few-compared : t .compared ≤ 16 * c
+  pub few-compared : t .compared ≤ k .per * c
 
 -- the first row of line c of a column of so many rows, or the end of the column
-abbrev pub row-at : ℕ → ℕ → ℕ
-row-at rows c = min (16 * c) rows
+abbrev pub row-at : Kind → ℕ → ℕ → ℕ
+row-at k rows c = min (k .per * c) rows
+
+-- row numbers are words of 32 bits
+abbrev pub row-words : ℕ
+row-words = 4294967296

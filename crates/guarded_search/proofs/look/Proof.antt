@@ -5,6 +5,7 @@ use lib.IntN.{ℤ, pos}
 use mir.Syntax.{w32}
 use mir.Val.{toZ, ofZ}
 use mir.ValLaws.{toZ-pos}
+use Rattle.bins.specs.Bins.{readings}
 use Rattle.column_index.specs.Promise.{Searches}
 use Rattle.column_index.specs.declared.SearchAnswer.{SearchAnswer}
 use Rattle.guarded_search.specs.declared.GuardAnswer.the-variants as guard
@@ -50,13 +51,13 @@ same-length-2 : tie.Need-same-length-2
 same-length-2 c = search needs
 
 -- what `search` says, of the keys' own values
-searched : (c : tie.After-search) → let s = c .before .before .before .before .before .before .before .before in Searches (s .args .column .now) (s .args .borders .now) (s .args .imprints .now) (s .args .dictionary .now) (pos (s .args .low .0)) (pos (s .args .high .0)) (s .args .rows .now) (c .search .result) (c .search .last .1 .1 .1 .1 .1 .1 .0)
+searched : (c : tie.After-search) → let s = c .before .before .before .before .before .before .before .before in Searches readings (s .args .column .now) (s .args .borders .now) (s .args .imprints .now) (s .args .dictionary .now) (pos (s .args .low .0)) (pos (s .args .high .0)) (s .args .rows .now) (c .search .result) (c .search .last .1 .1 .1 .1 .1 .1 .0)
 searched c =
     let s = c .before .before .before .before .before .before .before .before in
     let small = looks-small (s .pre) in
     let l = ap (λ (z : ℤ). toZ w32 (ofZ w32 z)) (c .before .before .before .value-of .ensures) ∙ toZ-pos w32 (s .args .low .0) (small .0) in
     let h = ap (λ (z : ℤ). toZ w32 (ofZ w32 z)) (c .before .before .value-of2 .ensures) ∙ toZ-pos w32 (s .args .high .0) (small .1) in
-    subst₂ (λ (x y : ℤ). Searches (s .args .column .now) (s .args .borders .now) (s .args .imprints .now) (s .args .dictionary .now) x y (s .args .rows .now) (c .search .result) (c .search .last .1 .1 .1 .1 .1 .1 .0)) l h (c .search .ensures)
+    subst₂ (λ (x y : ℤ). Searches readings (s .args .column .now) (s .args .borders .now) (s .args .imprints .now) (s .args .dictionary .now) x y (s .args .rows .now) (c .search .result) (c .search .last .1 .1 .1 .1 .1 .1 .0)) l h (c .search .ensures)
 
 returns : tie.Need-returns
 returns c =

@@ -6,6 +6,7 @@ use lib.IntN.{ℤ}
 use lib.ListN.{drop, getD}
 use mir.Syntax.{w32}
 use mir.ValLaws.{toZ-ofZ}
+use Rattle.bins.specs.Bins.{readings}
 use Rattle.column_index.specs.Promise.{Searches, search-words}
 use Rattle.found_rows.specs.Whole.{in-order}
 use Rattle.found_rows.proofs.FigureLaws.{answers-in-order}
@@ -33,7 +34,7 @@ returns c =
     let told : in-order (g .result) ≡ search-words (f .search .result) = ap in-order (g .ensures) ∙ answers-in-order (f .search .result) in
     record {
       answer = f .search .result;
-      searches = subst₂ (λ (l h : ℤ). Searches (s .args .column .now) (s .args .borders .now) (s .args .imprints .now) (s .args .dictionary .now) l h (s .args .ids .now) (f .search .result) (f .search .last .1 .1 .1 .1 .1 .1 .0)) (toZ-ofZ w32 (s .args .low) (s .fits .low)) (toZ-ofZ w32 (s .args .high) (s .fits .high)) (f .search .ensures);
+      searches = subst₂ (λ (l h : ℤ). Searches readings (s .args .column .now) (s .args .borders .now) (s .args .imprints .now) (s .args .dictionary .now) l h (s .args .ids .now) (f .search .result) (f .search .last .1 .1 .1 .1 .1 .1 .0)) (toZ-ofZ w32 (s .args .low) (s .fits .low)) (toZ-ofZ w32 (s .args .high) (s .fits .high)) (f .search .ensures);
       number = ap (λ (l : List ℕ). getD l 0 0) told;
       words = c .put5 .ensures ∙ ap (λ (l : List ℕ). drop 1 l) told;
     }

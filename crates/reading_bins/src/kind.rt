@@ -1,0 +1,9 @@
+// What sets readings apart from totals: rows to a line, the least and the greatest value, and how many lines the most rows make.
+
+pub const PER: usize = 16;
+
+pub const LEAST: i32 = -2147483648;
+
+pub const GREATEST: i32 = 2147483647;
+
+pub const MOST_LINES: usize = 1048576;
