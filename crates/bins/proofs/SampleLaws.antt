@@ -40,7 +40,7 @@ stride-pos n = go (leb n 2048) refl
     go true t = omega arith
     go false t = omega (arith, leb-false n 2048 t)
 
--- a stride is no longer than the column, where the column has a row
+-- a column within the limit has a stride of at most 8,192
 pub stride-le : (n : ℕ) → n ≤ most-rows → stride n ≤ 8192
 stride-le n h = go (leb n 2048) refl
   where

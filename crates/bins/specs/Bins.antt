@@ -1,6 +1,7 @@
 -- Document 01, "Bins and line imprints". Assumes nothing.
 use Prim.Native.Nat.{ℕ, suc, _-_, _*_, _/_, _^_}
-use mathlib.Core.List.{List, [], _∷_, _++_, map}
+use mathlib.Core.Path.{_≡_}
+use mathlib.Core.List.{List, [], _∷_, _++_, map, List·Memᴰ}
 use mathlib.Core.Bool.{Bool, true, cond, _&&_}
 use lib.Dec.{leb}
 use lib.ListN.{length, getD}
@@ -19,9 +20,9 @@ pub record Kind : Type 0 where
 abbrev pub readings : Kind
 readings = record { per = 16; least = negsuc (2 ^ 31 - 1); greatest = pos (2 ^ 31 - 1) }
 
--- totals: 64 bits, 8 rows to a line
-abbrev pub totals : Kind
-totals = record { per = 8; least = negsuc (2 ^ 63 - 1); greatest = pos (2 ^ 63 - 1) }
+-- every value of the column is one of its kind
+abbrev pub InKind : Kind → List ℤ → Type 0
+InKind k col = (v : ℤ) → List·Memᴰ v col → (leZ (k .least) v ≡ true) × (leZ v (k .greatest) ≡ true)
 
 -- the most rows of a column
 abbrev pub most-rows : ℕ

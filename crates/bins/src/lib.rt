@@ -1,4 +1,4 @@
-// What both widths of column share: kinds of number, the words of masks, and what becomes of a line. Definitions and laws over any kind stand here too.
+// What every kind of column shares: kinds of number, the words of masks, and what becomes of a line. Bins and imprints are defined here, over the kind, and their laws stand here.
 ghost use mathlib.Core.Path.{_≡_};
 ghost use Prim.Native.Nat.{ℕ, _+_, _^_, _<_, _≤_};
 ghost use mathlib.Core.Bool.{_&&_};

@@ -11,14 +11,14 @@ use lib.IntN.{ℤ}
 use borrow.Author.Tests.{leb-true, le-leb, leb-false, lt-ltb}
 use Rattle.words.specs.Lists.{pieces, every}
 use Rattle.words.proofs.ListLaws.{pieces-nil, pieces-more, pieces-short}
-use Rattle.bins.specs.Bins.{Kind, bins, imprint, imprints, borders}
+use Rattle.bins.specs.Bins.{Kind, InKind, bins, imprint, imprints, borders}
 use Rattle.bins.proofs.BinLaws.{imprint-lt, imprint-pos, imprints-length}
 use Rattle.bins.proofs.BorderLaws.{borders-rising}
 use Rattle.dictionary.specs.Dictionary.{fit, largest, accepted}
 use Rattle.dictionary.proofs.IndexLaws.{pack-accepted, unpack-pack}
 use Rattle.column_index.specs.Index.{packed-with, built, is-index-for}
 use Rattle.run_search.specs.Search.{scan, search-by, search}
-use Rattle.run_search.proofs.SearchLaws.{InKind, search-scan}
+use Rattle.run_search.proofs.SearchLaws.{search-scan}
 
 both : (a b : Bool) → a ≡ true → b ≡ true → (a && b) ≡ true
 both a b h k = and-eq-true-iff a b .1 (h, k)

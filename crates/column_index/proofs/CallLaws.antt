@@ -10,7 +10,7 @@ use lib.Pow.{pow-mono}
 use lib.Seq.{drop-append-seam}
 use lib.IntN.{ℤ}
 use lib.Signed.{ltZ}
-use borrow.Author.Tests.{leb-true, ltb-true, ltb-false, lt-ltb, le-ltb}
+use borrow.Author.Tests.{ltb-true, ltb-false, lt-ltb, le-ltb}
 use Rattle.words.specs.Lists.{joined, every, after}
 use Rattle.words.specs.Numbers.{numbered}
 use Rattle.words.proofs.BitOps.{share-and, outside-and}
@@ -23,7 +23,7 @@ use Rattle.dictionary.proofs.IndexLaws.{pack-unpack, accepted-lines}
 use Rattle.dictionary.proofs.PositionLaws.{Sized, entries-sized}
 use Rattle.column_index.specs.Index.{line-count, is-index-for}
 use Rattle.run_search.specs.Search.{Answer, with-line, search-by}
-use Rattle.run_search.specs.Runs.{Asked, asking, values, through, Readable}
+use Rattle.run_search.specs.loops.Runs.{Asked, asking, values, through, Readable}
 use Rattle.column_index.specs.Promise.{checked-answer, search-answer, search-room, search-number, Searches}
 use Rattle.column_index.specs.declared.IndexCheck.{IndexCheck}
 use Rattle.column_index.specs.declared.IndexCheck.the-variants as checking

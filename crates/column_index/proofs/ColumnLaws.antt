@@ -14,7 +14,7 @@ use Rattle.bins.proofs.BinLaws.{imprints-length}
 use Rattle.bins.proofs.LineLaws.{imprints-at}
 use Rattle.dictionary.specs.declared.packing.Packer.{Packer}
 use Rattle.dictionary.specs.Dictionary.{largest}
-use Rattle.dictionary.specs.Packer.{after, move-on, added, settled}
+use Rattle.dictionary.specs.loops.Packer.{after, move-on, added, settled}
 use Rattle.dictionary.proofs.PackLoops.{Measuring, measuring-next, measuring-ends, Writing, writing-next, writing-ends, dict-short, imps-short}
 use Rattle.column_index.specs.Index.{packed-with}
 

@@ -12,12 +12,13 @@ use borrow.Author.Tests.{le-ltb, le-leb, ltb-false}
 use Rattle.words.specs.Numbers.{numbered}
 use Rattle.words.specs.Lists.{every, filled}
 use Rattle.words.proofs.ListLaws.{take-filled}
-use Rattle.bins.specs.Bins.{Kind, most-rows, most-lines, borders, rising, good-borders, bins}
+use Rattle.bins.specs.Bins.{Kind, InKind, most-rows, most-lines, borders, rising, good-borders, bins}
 use Rattle.bins.proofs.BorderLaws.{borders-rising, borders-count}
 use Rattle.dictionary.specs.Dictionary.{pack, unpack, largest, fit, accepted}
 use Rattle.dictionary.proofs.IndexLaws.{unpack-pack, pack-unpack, accepted-lines, pack-accepted}
 use Rattle.column_index.specs.Index.{built, is-index-for}
 use Rattle.run_search.specs.Search.{Answer, scan, search-by}
+use Rattle.column_index.specs.Exact.{Lists-the-scan}
 use Rattle.column_index.specs.Promise.{Builds, build-answer, build-number, Packs, pack-answer, pack-number, Unpacks, unpack-answer, unpack-number, Searches, search-answer}
 use Rattle.column_index.specs.declared.BuildAnswer.{BuildAnswer}
 use Rattle.column_index.specs.declared.BuildAnswer.the-variants as build
@@ -27,9 +28,8 @@ use Rattle.column_index.specs.declared.UnpackAnswer.{UnpackAnswer}
 use Rattle.column_index.specs.declared.UnpackAnswer.the-variants as unpacking
 use Rattle.column_index.specs.declared.SearchAnswer.{SearchAnswer}
 use Rattle.column_index.specs.declared.SearchAnswer.the-variants as searching
-use Rattle.run_search.proofs.SearchLaws.{InKind}
 use Rattle.column_index.proofs.BuiltLaws.{built-accepted, built-scan}
-use Rattle.run_search.proofs.RowsLaws.{Rises, search-rises}
+use Rattle.run_search.proofs.RowsLaws.{search-rises}
 
 -- the front of a space that xs filled, by their number
 front {ℓ} : {A : Type ℓ} (n : ℕ) (xs l l′ : List A) → n ≡ length xs → l′ ≡ filled xs l → take n l′ ≡ xs
@@ -170,15 +170,6 @@ builds-all {k} {col} {bs} {is} {ds} {b} {i} {d} {bs′} {is′} {ds′} p =
       imprints-front = front i (built k col .imps) is is′ (h .2) (p .imprints-after);
       dictionary-front = front d (built k col .dict) ds ds′ (h .3) (p .dictionary-after);
     }
-
--- the search of a column with its own index: its rows are those of a plain scan, rising, each once
-pub record Lists-the-scan (k : Kind) (col : List ℤ) (low high : ℤ) (r : SearchAnswer) (rows′ : List ℕ) : Type 0 where
-  pub skipped : ℕ
-  pub whole : ℕ
-  pub compared : ℕ
-  pub answers : r ≡ searching.Done (length (scan k low high 0 col)) skipped whole compared
-  pub rows-front : take (length (scan k low high 0 col)) rows′ ≡ scan k low high 0 col
-  pub rise : Rises 0 (length col) (scan k low high 0 col)
 
 good-built : (k : Kind) (col : List ℤ) → good-borders (borders k col) ≡ true
 good-built k col = and-eq-true-iff (leb (length (borders k col)) 63) (rising (borders k col)) .1 (le-leb (length (borders k col)) 63 (borders-count k col), borders-rising k col)

@@ -1,4 +1,4 @@
-// What the index part answers, at both widths. The calls are promised here of a column of any kind, and the laws of the promises stand here.
+// What the index part answers, whatever the kind of column. Its calls are promised here, over the kind, and the laws of the promises stand here; the code is a crate a width.
 
 // What build answers: the lengths of the three parts; a column that is too long; or the first space that is too short, with the length needed.
 pub enum BuildAnswer {

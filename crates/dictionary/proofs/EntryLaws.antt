@@ -9,7 +9,7 @@ use lib.ListN.{length, getD, take, drop, set, replicate, length-take, length-dro
 use lib.Seq.{sets, length-sets, slice-cons, take-all, drop-cons, drop-drop}
 use Rattle.words.proofs.ListLaws.{sets-append}
 use Rattle.dictionary.specs.Dictionary.{count-of, repeated, unpack}
-use Rattle.dictionary.specs.Entries.{uses, lines-in}
+use Rattle.dictionary.specs.loops.Entries.{uses, lines-in}
 
 -- ---- copying
 

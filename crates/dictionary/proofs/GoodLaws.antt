@@ -10,10 +10,10 @@ use lib.ListN.{length, getD, take, drop, length-drop, drop-of-length-le}
 use lib.Seq.{slice-cons, length-take-le, drop-cons, drop-drop}
 use borrow.Author.Tests.{le-leb, lt-leb, lt-ltb, le-ltb, eq-eqb, ne-eqb, eqb-true, eqb-false, leb-true}
 use Rattle.dictionary.specs.Dictionary.{count-of, repeated}
-use Rattle.dictionary.specs.Entries.{uses}
+use Rattle.dictionary.specs.loops.Entries.{uses}
 use Rattle.dictionary.specs.declared.accepting.Past.the-variants.{Start}
 use Rattle.dictionary.specs.declared.accepting.Before.{Before}
-use Rattle.dictionary.specs.Scan.{preceding, opens, goes-on, neighbours, good-plain, good-repeat, good-entry, after-entry, scan}
+use Rattle.dictionary.specs.loops.Scan.{preceding, opens, goes-on, neighbours, good-plain, good-repeat, good-entry, after-entry, scan}
 
 -- ---- neighbours
 

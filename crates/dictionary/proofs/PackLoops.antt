@@ -16,7 +16,7 @@ use Rattle.dictionary.specs.declared.packing.Open.{Open}
 use Rattle.dictionary.specs.declared.packing.Open.the-variants.{Nothing, Lone, Run, Spill}
 use Rattle.dictionary.specs.declared.packing.Opened.{Opened}
 use Rattle.dictionary.specs.declared.packing.Packer.{Packer}
-use Rattle.dictionary.specs.Packer.{opened, fresh, Steady, move, move-on, last-of, last-word, settled, added, dict-from, imps-from, packer, after}
+use Rattle.dictionary.specs.loops.Packer.{opened, fresh, Steady, move, move-on, last-of, last-word, settled, added, dict-from, imps-from, packer, after}
 use Rattle.dictionary.proofs.PackerLaws.{dict-is, imps-is}
 
 -- ---- the open entry stays steady

@@ -14,7 +14,7 @@ use Rattle.dictionary.proofs.StreamLaws.{stream-entries}
 use Rattle.dictionary.specs.declared.packing.Opened.{Opened}
 use Rattle.dictionary.specs.declared.packing.Open.the-variants.{Lone, Run, Spill}
 use Rattle.dictionary.specs.declared.packing.Turn.{Turn}
-use Rattle.dictionary.specs.Packer.{opened, fresh, move, move-on, settled, added, dict-from, imps-from}
+use Rattle.dictionary.specs.loops.Packer.{opened, fresh, move, move-on, settled, added, dict-from, imps-from}
 
 abbrev pub opened-of : State → Opened
 opened-of empty = fresh

@@ -12,7 +12,7 @@ use Rattle.words.specs.Lists.{every}
 use Rattle.dictionary.specs.Dictionary.{Entry, plain, repeat, fit, accepted, largest}
 use Rattle.dictionary.specs.declared.accepting.Past.the-variants.{Start, Short, FullRun, Other}
 use Rattle.dictionary.specs.declared.accepting.Before.{Before}
-use Rattle.dictionary.specs.Scan.{preceding, opens, goes-on as runs-on, follows, neighbours, good-plain, good-repeat, past-after, scan}
+use Rattle.dictionary.specs.loops.Scan.{preceding, opens, goes-on as runs-on, follows, neighbours, good-plain, good-repeat, past-after, scan}
 use Rattle.dictionary.proofs.Stream.{lines-of, unpacked, State, empty, single, many, over}
 use Rattle.dictionary.proofs.Accept.{differs, leaves, goes-on, Reading, at, on, bad, read-first, read, may-repeat, good, state-of, accepts}
 use Rattle.dictionary.proofs.AcceptLaws.{read-bad}

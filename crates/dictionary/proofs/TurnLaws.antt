@@ -12,7 +12,7 @@ use Rattle.dictionary.specs.declared.packing.Open.{Open}
 use Rattle.dictionary.specs.declared.packing.Opened.{Opened}
 use Rattle.dictionary.specs.declared.packing.Turn.{Turn}
 use Rattle.dictionary.specs.declared.packing.Packer.{Packer}
-use Rattle.dictionary.specs.Packer.{move, move-on, last-of, last-word, settled, packer, after}
+use Rattle.dictionary.specs.loops.Packer.{move, move-on, last-of, last-word, settled, packer, after}
 
 -- the tests, in the order of the code
 module _ (k : Open) (t : Turn) (c x y : ℕ) where

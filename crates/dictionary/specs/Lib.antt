@@ -1,5 +1,3 @@
 pub mod Dictionary
 pub mod Position
-pub mod Packer
-pub mod Entries
-pub mod Scan
+pub mod loops

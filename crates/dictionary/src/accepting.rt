@@ -3,8 +3,8 @@ ghost use mathlib.Core.Path.{_≡_};
 ghost use Prim.Native.Nat.{_-_, _<_, _≤_};
 ghost use lib.ListN.{length, getD, take, drop};
 ghost use Rattle.dictionary.specs.Dictionary.{largest, accepted};
-ghost use Rattle.dictionary.specs.Entries.{uses};
-ghost use Rattle.dictionary.specs.Scan.{preceding, opens, goes-on, follows, neighbours, good-plain, good-repeat, good-entry, past-after, after-entry, scan};
+ghost use Rattle.dictionary.specs.loops.Entries.{uses};
+ghost use Rattle.dictionary.specs.loops.Scan.{preceding, opens, goes-on, follows, neighbours, good-plain, good-repeat, good-entry, past-after, after-entry, scan};
 
 // What the entry before was: none; a plain one that is not full; a full repeat one; any other.
 pub enum Past {

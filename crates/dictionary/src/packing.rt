@@ -6,7 +6,7 @@ ghost use lib.Dec.{eqb};
 ghost use lib.ListN.{length};
 ghost use lib.Seq.{sets};
 ghost use Rattle.dictionary.specs.Dictionary.{largest, pack};
-ghost use Rattle.dictionary.specs.Packer.{packer, opened, turn, fresh, Steady, move, move-on, last-word, settled, added, after};
+ghost use Rattle.dictionary.specs.loops.Packer.{packer, opened, turn, fresh, Steady, move, move-on, last-word, settled, added, after};
 
 // What is open: nothing yet; a plain entry; a repeat entry; one more line of a run whose entries are all full.
 pub enum Open {

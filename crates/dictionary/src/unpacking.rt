@@ -4,7 +4,7 @@ ghost use Prim.Native.Nat.{_+_, _<_, _≤_, min};
 ghost use lib.ListN.{length, getD, take, drop, replicate};
 ghost use lib.Seq.{sets};
 ghost use Rattle.dictionary.specs.Dictionary.{unpack};
-ghost use Rattle.dictionary.specs.Entries.{uses, lines-in};
+ghost use Rattle.dictionary.specs.loops.Entries.{uses, lines-in};
 
 // How many imprints are kept for an entry.
 pub fn used(d: u32) -> usize

@@ -8,13 +8,12 @@ use native.Mathlib.Omega.{arith}
 use lib.IntN.{ℤ, pos}
 use lib.ListN.{length}
 use borrow.Author.Tests.{le-ltb}
-use Rattle.words.specs.Lists.{has, every}
+use Rattle.words.specs.Lists.{has, every, different}
 use Rattle.bins.specs.Bins.{readings}
 use Rattle.run_search.specs.Search.{search-by, scan}
-use Rattle.range_filter.specs.Tree.{treeOf, splits, paint}
+use Rattle.halving_tree.specs.Tree.{treeOf, splits, paint}
 use Rattle.range_filter.specs.Layout.{Memory, Filter}
 use Rattle.range_filter.specs.Calls.{tooMany}
-use Rattle.range_filter.specs.Beside.{different}
 use Rattle.guarded_search.specs.Guarded.{keys, some-in, gap-low, gap-high}
 use Rattle.guarded_search.specs.Gaps.{gap-start}
 use Rattle.guarded_search.specs.Searching.{Turn, Searching, says-learnt, says-not-learnt, how-many, learnt-gaps, all-different}

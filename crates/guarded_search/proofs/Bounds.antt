@@ -11,14 +11,13 @@ use native.Mathlib.Omega.{arith}
 use lib.Dec.{ltb, eqb}
 use lib.Pow.{pow-pos}
 use borrow.Author.Tests.{lt-ltb, le-ltb, eqb-true, eqb-false}
-use Rattle.words.specs.Lists.{has}
-use Rattle.range_filter.specs.Tree.{treeOf, splits, paint}
-use Rattle.halving_tree.specs.Form.{In-range}
-use Rattle.range_filter.specs.Beside.{Beside, different}
+use Rattle.words.specs.Lists.{has, different}
+use Rattle.halving_tree.specs.Tree.{treeOf, splits, paint}
+use Rattle.halving_tree.specs.loops.Form.{In-range}
 use Rattle.range_filter.specs.Calls.{allIn}
 use Rattle.halving_tree.proofs.PaintLaws.{paint-in, paint-out}
 use Rattle.range_filter.proofs.PromiseLaws.{all-in-is}
-use Rattle.range_filter.proofs.Bound.{bound-different}
+use Rattle.range_filter.proofs.Bound.{Beside, bound-different}
 use Rattle.guarded_search.specs.Gaps.{follows, gap-start}
 use Rattle.guarded_search.proofs.GapLaws.{Begins, Ends, Gap, not-both}
 

@@ -33,7 +33,7 @@ use Rattle.range_filter.proofs.Decide.{decide}
 use Rattle.range_filter.proofs.Only.{unchanged}
 use Rattle.guarded_search.specs.Guarded.{keys, some-in, gap-low, gap-high, gap-learnt, Result, result, guarded}
 use Rattle.guarded_search.specs.Promise.{guard-number, guard-room, of-index, guard-answer, Guards}
-use Rattle.guarded_search.specs.Steps.{narrow-all, widest, taught-outcome, missed-outcome, Looks, Missed, Sought}
+use Rattle.guarded_search.specs.loops.Steps.{narrow-all, widest, taught-outcome, missed-outcome, Looks, Missed, Sought}
 use Rattle.guarded_search.specs.declared.Outcome.{Outcome}
 use Rattle.guarded_search.specs.declared.Outcome.the-variants.{Denied, Found, Learnt, NotLearnt}
 use Rattle.guarded_search.specs.declared.GuardAnswer.{GuardAnswer}

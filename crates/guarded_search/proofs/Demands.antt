@@ -9,22 +9,22 @@ use lib.IntN.{ℤ, pos}
 use lib.ListN.{length, take}
 use lib.Signed.{ltZ}
 use Rattle.words.specs.Numbers.{numbered}
-use Rattle.bins.specs.Bins.{readings}
+use Rattle.words.specs.Lists.{different}
+use Rattle.bins.specs.Bins.{readings, InKind}
 use Rattle.run_search.specs.Search.{search-by, scan}
+use Rattle.column_index.specs.Exact.{Lists-the-scan}
 use Rattle.column_index.specs.Promise.{build-number, Builds, pack-number, Packs, unpack-number, Unpacks, search-number, Searches}
 use Rattle.column_index.specs.declared.BuildAnswer.{BuildAnswer}
 use Rattle.column_index.specs.declared.BuildAnswer.the-variants as build
 use Rattle.column_index.specs.declared.PackAnswer.{PackAnswer}
 use Rattle.column_index.specs.declared.UnpackAnswer.{UnpackAnswer}
 use Rattle.column_index.specs.declared.SearchAnswer.{SearchAnswer}
-use Rattle.run_search.proofs.SearchLaws.{InKind}
 use Rattle.column_index.proofs.BuiltLaws.{built-scan}
-use Rattle.column_index.proofs.MadeLaws.{builds-all, Lists-the-scan, searches-built}
+use Rattle.column_index.proofs.MadeLaws.{builds-all, searches-built}
 use Rattle.column_index.proofs.PromiseLaws.{builds-keeps, packs-keeps, unpacks-keeps, searches-keeps}
 use Rattle.range_filter.specs.Calls.{freshMemory}
 use Rattle.range_filter.specs.Promise.{Fresh, madeNumber, Ask, Learn, learntNumber, Arrive, arrivedNumber, Forget, forgotNumber}
 use Rattle.range_filter.specs.History.{NoneIn}
-use Rattle.range_filter.specs.Beside.{different}
 use Rattle.range_filter.specs.declared.Made.{Made}
 use Rattle.range_filter.specs.declared.Asked.the-variants as asked
 use Rattle.range_filter.specs.declared.Learnt.{Learnt}

@@ -6,7 +6,7 @@ use Rattle.bins.specs.Bins.{sampled, sample, spread, borders-of, borders-sorted
 use Rattle.bins.specs.Masks.{matches, asked, inside, mask, inner, fate}
 use Rattle.dictionary.specs.Dictionary.{entries, pack}
 use Rattle.run_search.specs.Search.{fates, search}
-use Rattle.range_filter.specs.Tree.{treeOf}
+use Rattle.halving_tree.specs.Tree.{treeOf}
 use Rattle.guarded_search.specs.Examples.{all-hold, P1-to-P12}
 
 -- P1 TO P12 HOLD

@@ -14,7 +14,7 @@ use mir.Val.{Fits, SFits}
 use native.Mathlib.Numerals.{add-one}
 use borrow.Author.Tests.{ltb-true, ltb-false, lt-leb, le-leb, lt-ltb, le-ltb}
 use Rattle.guarded_search.specs.Guarded.{keys, some-in, gap-low, gap-high}
-use Rattle.guarded_search.specs.Steps.{narrow-key, narrow, narrow-all, widest}
+use Rattle.guarded_search.specs.loops.Steps.{narrow-key, narrow, narrow-all, widest}
 use Rattle.guarded_search.specs.declared.Gap.{Gap}
 use Rattle.guarded_search.proofs.GapLaws.{not-both, gap-high-le}
 

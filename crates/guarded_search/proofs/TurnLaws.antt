@@ -11,7 +11,7 @@ use lib.Seq.{sets, drop-append-seam}
 use borrow.Author.Tests.{eqb-true, eq-eqb, ltb-false}
 use Rattle.words.proofs.ListLaws.{sets-filled}
 use Rattle.bins.specs.Bins.{readings}
-use Rattle.range_filter.specs.Tree.{splits}
+use Rattle.halving_tree.specs.Tree.{splits}
 use Rattle.range_filter.specs.Layout.{Memory, treeIn, layout, Filter}
 use Rattle.range_filter.specs.Calls.{tooMany}
 use Rattle.range_filter.specs.Promise.{wordsAfter}

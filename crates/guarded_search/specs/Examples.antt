@@ -9,7 +9,7 @@ use Rattle.words.specs.Lists.{from, same}
 use Rattle.bins.specs.Bins.{readings, borders, imprints, eqZ}
 use Rattle.column_index.specs.Index.{built}
 use Rattle.run_search.specs.Search.{Answer, search-by}
-use Rattle.range_filter.specs.Tree.{splits}
+use Rattle.halving_tree.specs.Tree.{splits}
 use Rattle.range_filter.specs.Layout.{Memory, treeIn}
 use Rattle.range_filter.specs.Calls.{freshMemory, run, allIn, learnt, tooMany, arrived, single, forgotten}
 

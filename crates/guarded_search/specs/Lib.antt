@@ -3,5 +3,5 @@ pub mod Promise
 pub mod Gaps
 pub mod Searching
 pub mod History
-pub mod Steps
 pub mod Examples
+pub mod loops

@@ -11,7 +11,7 @@ ghost use lib.IntN.{pos};
 ghost use Rattle.bins.specs.Bins.{readings};
 ghost use Rattle.column_index.specs.Promise.{checked-answer};
 ghost use Rattle.guarded_search.specs.Promise.{of-index, Guards};
-ghost use Rattle.guarded_search.specs.Steps.{narrow-key, narrow, narrow-all, widest, taught-outcome, Looks, Missed, Sought};
+ghost use Rattle.guarded_search.specs.loops.Steps.{narrow-key, narrow, narrow-all, widest, taught-outcome, Looks, Missed, Sought};
 ghost use Rattle.guarded_search.specs.declared.Outcome.the-variants.{Denied};
 ghost use Rattle.guarded_search.specs.declared.GuardAnswer.the-variants.{Done};
 

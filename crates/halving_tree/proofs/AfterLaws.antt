@@ -6,8 +6,8 @@ use Prim.Native.Nat.{ℕ, _-_, _/_, _^_, _≤_, _<_}
 use native.Mathlib.Omega.{arith}
 use lib.Pow.{pow-pos, pow-mono}
 use Rattle.halving_tree.specs.Tree.{leaf, join, shift, treeOf, splits, paint}
-use Rattle.halving_tree.specs.Place.{At}
-use Rattle.halving_tree.specs.Form.{formOf, splitsOf, joinForm, Laid, Halved, Sub, Spot, Parted}
+use Rattle.halving_tree.specs.loops.Place.{At}
+use Rattle.halving_tree.specs.loops.Form.{formOf, splitsOf, joinForm, Laid, Halved, Sub, Spot, Parted}
 use Rattle.halving_tree.proofs.AskLaws.{half-is}
 use Rattle.halving_tree.proofs.PaintLaws.{paint-whole, paint-parts}
 use Rattle.halving_tree.proofs.FormLaws.{size-splits, splits-lt, form-splits, form-join}

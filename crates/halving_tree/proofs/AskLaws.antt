@@ -11,7 +11,7 @@ use lib.ListN.{length, getD}
 use lib.Pow.{pow-pos}
 use Rattle.halving_tree.specs.Tree.{Tree, leaf, node, join, shift, treeOf}
 use Rattle.halving_tree.specs.Encode.{size, leafWord}
-use Rattle.halving_tree.specs.Place.{At, AllIn, Says, Place}
+use Rattle.halving_tree.specs.loops.Place.{At, AllIn, Says, Place}
 use Rattle.halving_tree.proofs.Laws.{at-in, at-down, bit-lt, bit-inj, Parts}
 use Rattle.halving_tree.proofs.SeenLaws.{bad-flat}
 

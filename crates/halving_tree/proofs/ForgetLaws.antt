@@ -8,8 +8,8 @@ use lib.ListN.{getD}
 use borrow.Author.Tests.{ne-eqb, eq-eqb}
 use Rattle.halving_tree.specs.Tree.{Tree, leaf, node, shift, treeOf}
 use Rattle.halving_tree.specs.Encode.{leafWord}
-use Rattle.halving_tree.specs.Place.{At, Place}
-use Rattle.halving_tree.specs.Found.{orElse, moved, pairHere, firstFrom, Below}
+use Rattle.halving_tree.specs.loops.Place.{At, Place}
+use Rattle.halving_tree.specs.loops.Found.{orElse, moved, pairHere, firstFrom, Below}
 use Rattle.halving_tree.specs.declared.Found.{Found}
 use Rattle.halving_tree.specs.declared.Found.the-variants.{Nothing, Pair}
 use Rattle.halving_tree.proofs.Laws.{bit-lt, treeOf-down}

@@ -8,8 +8,8 @@ use native.Mathlib.Omega.{arith}
 use lib.ListN.{length, getD}
 use Rattle.halving_tree.specs.Tree.{Tree, leaf, node, join, shift, treeOf, splits}
 use Rattle.halving_tree.specs.Encode.{size, leafWord}
-use Rattle.halving_tree.specs.Place.{At}
-use Rattle.halving_tree.specs.Form.{formOf, splitsOf, joinForm, Laid, Halved, Sub}
+use Rattle.halving_tree.specs.loops.Place.{At}
+use Rattle.halving_tree.specs.loops.Form.{formOf, splitsOf, joinForm, Laid, Halved, Sub}
 use Rattle.halving_tree.specs.declared.Form.the-variants.{Mixed}
 use Rattle.halving_tree.proofs.Laws.{size-pos, at-in, at-room, at-unique, at-down, bit-lt, treeOf-down}
 use Rattle.halving_tree.proofs.AskLaws.{at-leaf, join-leaf}

@@ -11,7 +11,7 @@ use lib.Dec.{ltb, lit<}
 use borrow.Author.Tests.{lt-ltb, le-ltb}
 use Rattle.halving_tree.specs.Tree.{Tree, leaf, node, twin, join, shift, treeOf}
 use Rattle.halving_tree.specs.Encode.{size, leafWord}
-use Rattle.halving_tree.specs.Place.{At}
+use Rattle.halving_tree.specs.loops.Place.{At}
 
 pub size-pos : (t : Tree) → 0 < size t
 size-pos (leaf b) = omega arith

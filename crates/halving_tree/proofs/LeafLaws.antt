@@ -12,8 +12,8 @@ use lib.Pow.{pow-pos}
 use borrow.Author.Tests.{lt-ltb, le-ltb}
 use Rattle.halving_tree.specs.Tree.{Tree, leaf, node, join, shift, treeOf, splits, paint, leafLow, leafHigh}
 use Rattle.halving_tree.specs.Encode.{leafWord}
-use Rattle.halving_tree.specs.Place.{At, Place, Holds}
-use Rattle.halving_tree.specs.Form.{Parted}
+use Rattle.halving_tree.specs.loops.Place.{At, Place, Holds}
+use Rattle.halving_tree.specs.loops.Form.{Parted}
 use Rattle.halving_tree.proofs.Laws.{treeOf-down}
 use Rattle.halving_tree.proofs.AskLaws.{at-leaf, half-is, deep, halves}
 use Rattle.halving_tree.proofs.FormLaws.{join-splits}

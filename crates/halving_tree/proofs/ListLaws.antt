@@ -9,7 +9,7 @@ use lib.Seq.{sets, set-comm, take-suc, drop-cons, getD-drop, length-take-le, tak
 use Rattle.words.proofs.ListLaws.{sets-append}
 use Rattle.halving_tree.specs.Tree.{Tree, leaf, node}
 use Rattle.halving_tree.specs.Encode.{size, encode}
-use Rattle.halving_tree.specs.Place.{At}
+use Rattle.halving_tree.specs.loops.Place.{At}
 
 pub set-sets : (xs l : List ℕ) (i j v : ℕ) → i < j → set (sets l j xs) i v ≡ sets (set l i v) j xs
 set-sets [] l i j v lt = refl

@@ -6,7 +6,7 @@ use native.Mathlib.Decide.{decLe}
 use native.Mathlib.Omega.{arith}
 use borrow.Author.Tests.{le-leb, lt-leb}
 use Rattle.halving_tree.specs.Tree.{leaf, join, shift, treeOf, paint}
-use Rattle.halving_tree.specs.Form.{In-range, Parted}
+use Rattle.halving_tree.specs.loops.Form.{In-range, Parted}
 use Rattle.halving_tree.proofs.Laws.{treeOf-ext, treeOf-const, treeOf-down}
 
 module _ (b : Bool) (lo hi : ℕ) (D : ℕ → Bool) (x : ℕ) where

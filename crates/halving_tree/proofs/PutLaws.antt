@@ -8,8 +8,8 @@ use lib.ListN.{length, take, drop, set}
 use lib.Seq.{sets}
 use Rattle.halving_tree.specs.Tree.{Tree, leaf, node, join, shift, treeOf, paint}
 use Rattle.halving_tree.specs.Encode.{size, encode}
-use Rattle.halving_tree.specs.Place.{At}
-use Rattle.halving_tree.specs.Form.{formOf, kindOf, Halved, Parted, Fill, Wrote}
+use Rattle.halving_tree.specs.loops.Place.{At}
+use Rattle.halving_tree.specs.loops.Form.{formOf, kindOf, Halved, Parted, Fill, Wrote}
 use Rattle.halving_tree.proofs.Laws.{at-room, at-unique, size-pos}
 use Rattle.halving_tree.proofs.PaintLaws.{paint-none}
 use Rattle.halving_tree.proofs.FormLaws.{size-splits}

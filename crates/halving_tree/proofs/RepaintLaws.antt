@@ -8,9 +8,9 @@ use lib.ListN.{length, take, drop, length-append}
 use lib.Seq.{sets, sets-eq, length-take-le, getD-append-seam}
 use Rattle.halving_tree.specs.Tree.{Tree, leaf, node, treeOf}
 use Rattle.halving_tree.specs.Encode.{size, leafWord, encode}
-use Rattle.halving_tree.specs.Place.{At}
-use Rattle.halving_tree.specs.Form.{Fill}
-use Rattle.halving_tree.specs.Repaint.{Ready}
+use Rattle.halving_tree.specs.loops.Place.{At}
+use Rattle.halving_tree.specs.loops.Form.{Fill}
+use Rattle.halving_tree.specs.loops.Repaint.{Ready}
 use Rattle.halving_tree.proofs.Laws.{at-unique, at-room}
 use Rattle.halving_tree.proofs.ListLaws.{length-encode, at-encode}
 

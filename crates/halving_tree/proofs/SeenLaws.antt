@@ -7,9 +7,9 @@ use native.Mathlib.Omega.{arith}
 use lib.ListN.{length, getD}
 use Rattle.halving_tree.specs.Tree.{shift, treeOf}
 use Rattle.halving_tree.specs.Encode.{size, leafWord}
-use Rattle.halving_tree.specs.Place.{At}
+use Rattle.halving_tree.specs.loops.Place.{At}
 use Rattle.halving_tree.proofs.Laws.{glue}
-use Rattle.halving_tree.specs.Seen.{Saw}
+use Rattle.halving_tree.specs.loops.Seen.{Saw}
 use Rattle.halving_tree.specs.declared.Seen.the-variants.{Bad, Good}
 use Rattle.halving_tree.proofs.Laws.{size-pos, at-in, at-room, at-unique, at-down, parts-at, differ, twins, bit-lt, treeOf-const, treeOf-up, Parts}
 

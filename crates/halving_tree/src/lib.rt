@@ -3,11 +3,11 @@ ghost use mathlib.Core.Path.{_≡_};
 ghost use mathlib.Core.Bool.{Bool, true, false};
 ghost use Prim.Native.Nat.{ℕ, _+_, _-_, _≤_, _<_};
 ghost use Rattle.halving_tree.specs.Tree.{Tree, leaf, treeOf, paint};
-ghost use Rattle.halving_tree.specs.Place.{At, AllIn, Says, Place, Holds};
-ghost use Rattle.halving_tree.specs.Seen.{Saw};
-ghost use Rattle.halving_tree.specs.Form.{formOf, splitsOf, joinForm, Laid, Halved, Sub, Spot, kindOf, Fill, Wrote, Parted};
-ghost use Rattle.halving_tree.specs.Found.{orElse, moved, pairHere, firstFrom, Below, walk};
-ghost use Rattle.halving_tree.specs.Repaint.{Ready, Painted};
+ghost use Rattle.halving_tree.specs.loops.Place.{At, AllIn, Says, Place, Holds};
+ghost use Rattle.halving_tree.specs.loops.Seen.{Saw};
+ghost use Rattle.halving_tree.specs.loops.Form.{formOf, splitsOf, joinForm, Laid, Halved, Sub, Spot, kindOf, Fill, Wrote, Parted};
+ghost use Rattle.halving_tree.specs.loops.Found.{orElse, moved, pairHere, firstFrom, Below, walk};
+ghost use Rattle.halving_tree.specs.loops.Repaint.{Ready, Painted};
 ghost use lib.ListN.{length, take, drop};
 ghost use lib.Seq.{sets};
 

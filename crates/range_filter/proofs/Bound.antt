@@ -12,11 +12,14 @@ use native.Mathlib.Numerals.{add-one}
 use native.Mathlib.Omega.{arith}
 use Rattle.halving_tree.specs.Tree.{shift, treeOf, splits}
 use Rattle.halving_tree.specs.Encode.{leafWord}
-use Rattle.words.specs.Lists.{has}
-use Rattle.range_filter.specs.Beside.{Beside, different}
+use Rattle.words.specs.Lists.{has, different}
 use Rattle.halving_tree.proofs.Laws.{treeOf-ext, treeOf-const}
 use Rattle.halving_tree.proofs.AskLaws.{by-halves}
 use Rattle.halving_tree.proofs.FormLaws.{join-splits}
+
+-- every change of D below 2^k lies next to a key of K
+abbrev pub Beside : ℕ → (ℕ → Bool) → (ℕ → Bool) → Type 0
+Beside k D K = (x : ℕ) → x + 1 < 2 ^ k → (D x ≡ D (x + 1) → ⊥) → (K x ≡ true) ⊎ (K (x + 1) ≡ true)
 
 -- how many of the keys 0 to 2^k - 1 are in K
 pub count : ℕ → (ℕ → Bool) → ℕ

@@ -10,7 +10,7 @@ use lib.Pow.{pow-pos}
 use borrow.Author.Tests.{le-leb, lt-leb, eq-eqb, ne-eqb, leb-true, leb-false}
 use Rattle.halving_tree.specs.Tree.{Tree, leaf, node, join, shift, treeOf}
 use Rattle.range_filter.specs.Calls.{Choice, none, split, pairs, lower, startsFrom, lowestFrom, single}
-use Rattle.halving_tree.specs.Found.{orElse, moved, pickFound, pairHere, firstFrom, Below}
+use Rattle.halving_tree.specs.loops.Found.{orElse, moved, pickFound, pairHere, firstFrom, Below}
 use Rattle.halving_tree.specs.declared.Found.{Found}
 use Rattle.halving_tree.specs.declared.Found.the-variants.{Nothing, Pair}
 use Rattle.halving_tree.proofs.Laws.{treeOf-down}

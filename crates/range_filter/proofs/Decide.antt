@@ -10,7 +10,7 @@ use lib.Dec.{eqb}
 use lib.ListN.{length, getD}
 use borrow.Author.Tests.{eqb-true, eqb-false}
 use Rattle.range_filter.specs.Layout.{Memory, Filter}
-use Rattle.halving_tree.specs.Seen.{Saw}
+use Rattle.halving_tree.specs.loops.Seen.{Saw}
 use Rattle.halving_tree.specs.declared.Seen.{Seen}
 use Rattle.halving_tree.specs.declared.Seen.the-variants.{Bad, Good}
 use Rattle.halving_tree.proofs.LeafLaws.{down-ind}

@@ -15,10 +15,10 @@ use Rattle.halving_tree.specs.Encode.{encode}
 use Rattle.range_filter.specs.Layout.{Memory, treeIn, layout, Filter}
 use Rattle.range_filter.specs.Calls.{split, pairs, lowestFrom, single, chosen, keyAfter, without, forgotten}
 use Rattle.range_filter.specs.Calls as calls
-use Rattle.halving_tree.specs.Found.{orElse, moved, pickFound, pairHere, firstFrom, walk}
-use Rattle.halving_tree.specs.Place.{At}
-use Rattle.halving_tree.specs.Repaint.{Painted}
-use Rattle.range_filter.specs.Loaded.{Heads}
+use Rattle.halving_tree.specs.loops.Found.{orElse, moved, pickFound, pairHere, firstFrom, walk}
+use Rattle.halving_tree.specs.loops.Place.{At}
+use Rattle.halving_tree.specs.loops.Repaint.{Painted}
+use Rattle.range_filter.specs.loops.Loaded.{Heads}
 use Rattle.range_filter.specs.declared.Head.{Head}
 use Rattle.halving_tree.specs.declared.Found.{Found}
 use Rattle.halving_tree.specs.declared.Found.the-variants.{Nothing, Pair}

@@ -13,7 +13,7 @@ use Rattle.halving_tree.specs.Tree.{splits, leafLow, leafHigh}
 use Rattle.range_filter.specs.Layout.{Memory, treeIn, layout, wordsNeeded, Filter}
 use Rattle.range_filter.specs.Calls.{Choice, split, freshMemory, learnt, tooMany, arrived, keyAfter, without, forgotten}
 use Rattle.range_filter.specs.Promise.{Kept, wordsAfter, outside, Fresh, madeNumber, learntNumber, learnAnswer, Learn, arrivedNumber, Arrive, forgotNumber, Forget}
-use Rattle.halving_tree.specs.Found.{walk}
+use Rattle.halving_tree.specs.loops.Found.{walk}
 use Rattle.halving_tree.specs.declared.Found.{Found}
 use Rattle.halving_tree.specs.declared.Found.the-variants.{Nothing, Pair}
 use Rattle.range_filter.specs.declared.Made.{Made}

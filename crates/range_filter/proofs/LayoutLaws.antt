@@ -8,7 +8,7 @@ use lib.Seq.{sets, sets-eq, length-sets}
 use Rattle.halving_tree.specs.Tree.{treeOf, splits}
 use Rattle.halving_tree.specs.Encode.{size, encode}
 use Rattle.range_filter.specs.Layout.{Memory, treeIn, layout, wordsNeeded, Filter}
-use Rattle.halving_tree.specs.Place.{At}
+use Rattle.halving_tree.specs.loops.Place.{At}
 use Rattle.halving_tree.proofs.Laws.{at-unique}
 use Rattle.halving_tree.proofs.FormLaws.{size-splits}
 use Rattle.halving_tree.proofs.ListLaws.{length-encode, at-encode}

@@ -12,10 +12,10 @@ use Rattle.halving_tree.specs.Tree.{Tree, treeOf, splits, paint}
 use Rattle.halving_tree.specs.Encode.{size, encode}
 use Rattle.range_filter.specs.Layout.{Memory, treeIn, layout, Filter}
 use Rattle.range_filter.specs.Calls.{withSet, learnt, tooMany, arrived}
-use Rattle.halving_tree.specs.Place.{At, Holds}
-use Rattle.halving_tree.specs.Form.{formOf, splitsOf, Spot}
-use Rattle.halving_tree.specs.Repaint.{Ready, Painted}
-use Rattle.range_filter.specs.Loaded.{Heads}
+use Rattle.halving_tree.specs.loops.Place.{At, Holds}
+use Rattle.halving_tree.specs.loops.Form.{formOf, splitsOf, Spot}
+use Rattle.halving_tree.specs.loops.Repaint.{Ready, Painted}
+use Rattle.range_filter.specs.loops.Loaded.{Heads}
 use Rattle.range_filter.specs.declared.Head.{Head}
 use Rattle.halving_tree.specs.declared.Form.{Form}
 use Rattle.halving_tree.proofs.FormLaws.{size-splits, form-splits}

@@ -7,7 +7,7 @@ use lib.ListN.{length, getD}
 use Rattle.halving_tree.specs.Tree.{treeOf}
 use Rattle.halving_tree.specs.Encode.{size}
 use Rattle.range_filter.specs.Layout.{Memory, treeIn, Filter}
-use Rattle.halving_tree.specs.Seen.{Saw}
+use Rattle.halving_tree.specs.loops.Seen.{Saw}
 use Rattle.halving_tree.specs.declared.Seen.the-variants.{Bad, Good}
 use Rattle.halving_tree.proofs.Laws.{at-unique}
 use Rattle.halving_tree.proofs.FormLaws.{size-splits}

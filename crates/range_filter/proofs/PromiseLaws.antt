@@ -9,9 +9,9 @@ use borrow.Author.Tests.{lt-ltb, le-ltb, le-leb, lt-leb, eqb-true, eqb-false}
 use Rattle.range_filter.specs.Layout.{Memory, Filter}
 use Rattle.range_filter.specs.Calls.{run, allIn}
 use Rattle.halving_tree.specs.Tree.{treeOf}
-use Rattle.halving_tree.specs.Place.{At, AllIn, Says}
+use Rattle.halving_tree.specs.loops.Place.{At, AllIn, Says}
 use Rattle.range_filter.specs.Promise.{Told, Kept, wordsAfter, ofRange, ofKey}
-use Rattle.range_filter.specs.Loaded.{Heads}
+use Rattle.range_filter.specs.loops.Loaded.{Heads}
 use Rattle.range_filter.specs.declared.Head.{Head}
 use Rattle.range_filter.proofs.LayoutLaws.{tree-at}
 

@@ -6,7 +6,7 @@ use native.Mathlib.Omega.{arith}
 use Rattle.halving_tree.specs.Tree.{splits}
 use Rattle.range_filter.specs.Layout.{Memory, treeIn, Filter}
 use Rattle.range_filter.specs.Promise.{readAnswer}
-use Rattle.range_filter.specs.Loaded.{Heads}
+use Rattle.range_filter.specs.loops.Loaded.{Heads}
 use Rattle.range_filter.specs.declared.Head.{Head}
 use Rattle.range_filter.specs.declared.Reading.{Reading}
 use Rattle.range_filter.specs.declared.Reading.the-variants.{Means}

@@ -11,7 +11,7 @@ use Rattle.halving_tree.specs.Tree.{Tree, leaf, node, leafLow, leafHigh, paint}
 use Rattle.range_filter.specs.Layout.{Memory, treeIn, Filter}
 use Rattle.range_filter.specs.Calls.{split, freshMemory, allIn, learnt, arrived, without, forgotten}
 use Rattle.range_filter.specs.Promise.{outside, Ask, learntNumber, arrivedNumber, Arrive, forgotNumber}
-use Rattle.halving_tree.specs.Form.{In-range}
+use Rattle.halving_tree.specs.loops.Form.{In-range}
 use Rattle.range_filter.specs.History.{NoneIn, oneLess, History, begins, taught, came, went, forgot}
 use Rattle.range_filter.specs.declared.Asked.the-variants as asked
 use Rattle.range_filter.specs.declared.Arrived.{Arrived}

@@ -72,7 +72,7 @@ pub record Fresh (levels room : ℕ) (w : List ℕ) (r : Made) (w′ : List ℕ)
   pub answers : r ≡ freshAnswer levels room (length w)
   pub words : w′ ≡ wordsAfter (madeNumber r) w (freshMemory levels room)
 
--- ask: 8, 7, 1; the value beside the number is 1 for denied
+-- ask: 8, 7, 1
 abbrev pub askedNumber : Asked → ℕ
 askedNumber asked.NoFilter = numbered no-filter
 askedNumber asked.NoKey = numbered no-key

@@ -6,7 +6,7 @@ ghost use mathlib.Core.Path.{_≡_};
 ghost use Prim.Native.Nat.{ℕ, _+_, _^_, _≤_, _<_};
 ghost use Rattle.range_filter.specs.Layout.{wordsNeeded};
 ghost use Rattle.range_filter.specs.Calls.{keyAfter};
-ghost use Rattle.range_filter.specs.Loaded.{IsLoaded};
+ghost use Rattle.range_filter.specs.loops.Loaded.{IsLoaded};
 ghost use Rattle.range_filter.specs.Promise.{Fresh, Ask, Learn, Arrive, Forget, Depart, Read};
 
 // A key of the filter.

@@ -27,7 +27,7 @@ use Rattle.column_index.proofs.BuiltLaws.{built-accepted}
 use Rattle.column_index.proofs.ColumnLaws.{column-imps-short, column-dict-short}
 use Rattle.run_search.proofs.RowsLaws.{search-rises}
 use Rattle.column_index.proofs.MadeLaws.{Built-all, builds-all}
-use Rattle.range_text.specs.Puts.{Room}
+use Rattle.range_text.specs.loops.Puts.{Room}
 use Rattle.range_text.specs.Text.{found-in, found-text, range-text, refused-line}
 use Rattle.range_text.proofs.LengthLaws.{rises-count, rises-below, search-counts, found-short, refused-short}
 

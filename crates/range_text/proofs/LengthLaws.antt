@@ -11,7 +11,7 @@ use Rattle.bins.specs.Bins.{Kind, readings, lines}
 use Rattle.bins.specs.declared.Fate.{Fate}
 use Rattle.bins.specs.declared.Fate.the-variants.{Skipped, Whole, Compared}
 use Rattle.run_search.specs.Search.{over, with-line, search, fates}
-use Rattle.run_search.proofs.RowsLaws.{Rises}
+use Rattle.run_search.specs.Listed.{Rises}
 use Rattle.range_text.specs.Text.{decimal, labelled, three, row-line, row-lines, refused-line, refused-word, found-text, rows-word, lines-word, borders-word, whole-word, compared-word, skipped-word}
 use Rattle.range_text.proofs.DecimalLaws.{decimal-short}
 

@@ -7,7 +7,7 @@ use native.Mathlib.Numerals.{add-one}
 use lib.ListN.{length, getD, set, drop, length-append, drop-of-length-le}
 use lib.Seq.{sets, drop-cons, length-sets}
 use Rattle.words.proofs.ListLaws.{sets-append}
-use Rattle.range_text.specs.Puts.{Room, Puts}
+use Rattle.range_text.specs.loops.Puts.{Room, Puts}
 use Rattle.range_text.specs.Text.{row-line, row-lines}
 
 -- there is room for the first piece, and behind it for the second

@@ -7,7 +7,7 @@ use native.Mathlib.Omega.{arith}
 use lib.ListN.{length}
 use borrow.Author.Tests.{lt-ltb, le-ltb}
 use Rattle.words.proofs.ListLaws.{sets-filled}
-use Rattle.range_text.specs.Puts.{Puts}
+use Rattle.range_text.specs.loops.Puts.{Puts}
 use Rattle.range_input.specs.Input.{readable, low-of, high-of, column-of}
 use Rattle.range_text.specs.Text.{text-of, range-text, refused-line, Writes}
 use Rattle.range_input.proofs.InputLaws.{readable-few, column-length}

@@ -11,7 +11,7 @@ ghost use lib.ListN.{length};
 ghost use Rattle.words.specs.Lists.{ceil};
 ghost use Rattle.bins.specs.Bins.{readings, borders as borders-of};
 ghost use Rattle.column_index.specs.Index.{built};
-ghost use Rattle.range_text.specs.Puts.{Puts};
+ghost use Rattle.range_text.specs.loops.Puts.{Puts};
 ghost use Rattle.range_text.specs.Text.{range-text, Writes};
 
 fn line_count(rows: usize) -> usize

@@ -1,4 +1,4 @@
-// What sets readings apart from totals: rows to a line, the least and the greatest value, and how many lines the most rows make.
+// What sets readings apart from another kind of column: rows to a line, the least and the greatest value, and how many lines the most rows make.
 
 pub const PER: usize = 16;
 

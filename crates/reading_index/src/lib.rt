@@ -12,8 +12,8 @@ ghost use Rattle.words.specs.Lists.{after};
 ghost use Rattle.words.specs.Numbers.{numbered};
 ghost use Rattle.bins.specs.Bins.{readings, most-rows, most-lines};
 ghost use Rattle.dictionary.specs.Dictionary.{unpack};
-ghost use Rattle.run_search.specs.Runs.{through, Readable};
-ghost use Rattle.reading_search.specs.Ask.{asked-of};
+ghost use Rattle.run_search.specs.loops.Runs.{through, Readable};
+ghost use Rattle.reading_search.specs.loops.Ask.{asked-of};
 ghost use Rattle.column_index.specs.Promise.{Searches, search-room, search-number, checked-answer};
 
 // The checks 2, 5 and 3.

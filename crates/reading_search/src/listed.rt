@@ -10,14 +10,13 @@ ghost use mathlib.Core.List.{[], _∷_};
 ghost use Prim.Native.Nat.{_+_, _*_, _<_, _≤_};
 ghost use lib.ListN.{length};
 ghost use lib.Seq.{sets};
-ghost use Rattle.words.specs.Lists.{from};
 ghost use Rattle.bins.specs.Bins.{readings, most-rows, most-lines};
 ghost use Rattle.bins.specs.Masks.{matches};
 ghost use Rattle.dictionary.specs.Dictionary.{count-of, unpack};
 ghost use Rattle.run_search.specs.Search.{scan};
-ghost use Rattle.dictionary.specs.Entries.{lines-in, uses};
-ghost use Rattle.run_search.specs.Runs.{through, run-at, Readable, row-words};
-ghost use Rattle.reading_search.specs.Ask.{asked-of};
+ghost use Rattle.dictionary.specs.loops.Entries.{lines-in, uses};
+ghost use Rattle.run_search.specs.loops.Runs.{through, run-at, Readable, row-words};
+ghost use Rattle.reading_search.specs.loops.Ask.{asked-of};
 
 // The row at place `at`, where its value lies in the range. Gives the next place.
 fn put_row(rows: &mut [u32], at: usize, row: Row, v: i32, ask: Ask) -> usize

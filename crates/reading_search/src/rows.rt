@@ -12,9 +12,9 @@ ghost use Rattle.bins.specs.Bins.{readings, most-rows, most-lines};
 ghost use Rattle.bins.specs.Masks.{matches};
 ghost use Rattle.dictionary.specs.Dictionary.{count-of, unpack};
 ghost use Rattle.run_search.specs.Search.{scan};
-ghost use Rattle.dictionary.specs.Entries.{lines-in, uses};
-ghost use Rattle.run_search.specs.Runs.{values, through, run-at, tally, plus, Readable, Within, row-at};
-ghost use Rattle.reading_search.specs.Ask.{asked-of};
+ghost use Rattle.dictionary.specs.loops.Entries.{lines-in, uses};
+ghost use Rattle.run_search.specs.loops.Runs.{values, through, run-at, tally, plus, Readable, Within, row-at};
+ghost use Rattle.reading_search.specs.loops.Ask.{asked-of};
 
 // A closed range, and the masks of the bins that it is searched by.
 pub struct Ask {

@@ -12,8 +12,8 @@ use lib.IntN.{ℤ}
 use Rattle.bins.specs.Bins.{Kind}
 use Rattle.dictionary.specs.Dictionary.{unpack, count-of, repeated}
 use Rattle.run_search.specs.Search.{Answer, nothing}
-use Rattle.dictionary.specs.Entries.{lines-in, uses}
-use Rattle.run_search.specs.Runs.{Asked, through, run-at, then, tally, plus, Readable, Within}
+use Rattle.dictionary.specs.loops.Entries.{lines-in, uses}
+use Rattle.run_search.specs.loops.Runs.{Asked, through, run-at, then, tally, plus, Readable, Within}
 use Rattle.run_search.specs.declared.Tally.{Tally}
 use Rattle.run_search.proofs.RunLaws.{through-append, through-run, plus-then, plus-nothing, unpack-entry, run-at-within, values-length}
 

@@ -17,8 +17,8 @@ use Rattle.bins.specs.declared.Fate.{Fate}
 use Rattle.bins.specs.declared.Fate.the-variants.{Skipped, Whole, Compared}
 use Rattle.dictionary.specs.Dictionary.{unpack, count-of}
 use Rattle.run_search.specs.Search.{Answer, scan}
-use Rattle.dictionary.specs.Entries.{lines-in, uses}
-use Rattle.run_search.specs.Runs.{Asked, fate-in, values, through, run-of, run-at, Readable, row-words}
+use Rattle.dictionary.specs.loops.Entries.{lines-in, uses}
+use Rattle.run_search.specs.loops.Runs.{Asked, fate-in, values, through, run-of, run-at, Readable, row-words}
 use Rattle.run_search.proofs.RunLaws.{through-append}
 use Rattle.run_search.proofs.EntryLaws.{Going, going-starts, going-next, going-ends, lines-turn, lines-end}
 

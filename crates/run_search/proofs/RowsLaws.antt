@@ -12,12 +12,8 @@ use Rattle.bins.specs.Bins.{Kind, lines}
 use Rattle.bins.specs.Masks.{matches}
 use Rattle.bins.specs.declared.Fate.{Fate}
 use Rattle.bins.specs.declared.Fate.the-variants.{Skipped, Whole, Compared}
-use Rattle.run_search.specs.Search.{scan, Answer, with-line, over, fates, search}
-
--- a to b: each number is at least a, below b, and above the one before it
-abbrev pub Rises : ℕ → ℕ → List ℕ → Type 0
-Rises a b [] = a ≤ b
-Rises a b (x ∷ xs) = (a ≤ x) × Rises (suc x) b xs
+use Rattle.run_search.specs.Search.{scan, with-line, over, fates, search}
+use Rattle.run_search.specs.Listed.{Rises, Counted}
 
 rises-lower : (a a′ b : ℕ) (xs : List ℕ) → a ≤ a′ → Rises a′ b xs → Rises a b xs
 rises-lower a a′ b [] h r = omega arith
@@ -71,41 +67,6 @@ module _ (k : Kind) (low high : ℤ) where
       rw e at (over-rises (lines k col) (fates k bs low high ws) 0)
 
 -- ---- the counts
-
-abbrev is-skipped : Fate → ℕ
-is-skipped Skipped = 1
-is-skipped Whole = 0
-is-skipped Compared = 0
-
-abbrev is-whole : Fate → ℕ
-is-whole Skipped = 0
-is-whole Whole = 1
-is-whole Compared = 0
-
-abbrev is-compared : Fate → ℕ
-is-compared Skipped = 0
-is-compared Whole = 0
-is-compared Compared = 1
-
--- how many of the lines have the fate that f counts
-abbrev pub how-many : (Fate → ℕ) → List Fate → ℕ
-how-many f [] = 0
-how-many f (x ∷ xs) = f x + how-many f xs
-
--- the rows of the compared lines
-abbrev pub rows-compared : List (List ℤ) → List Fate → ℕ
-rows-compared [] fs = 0
-rows-compared (l ∷ ls) [] = 0
-rows-compared (l ∷ ls) (Skipped ∷ fs) = rows-compared ls fs
-rows-compared (l ∷ ls) (Whole ∷ fs) = rows-compared ls fs
-rows-compared (l ∷ ls) (Compared ∷ fs) = length l + rows-compared ls fs
-
--- what the three counts count
-pub record Counted (ls : List (List ℤ)) (fs : List Fate) (a : Answer) : Type 0 where
-  pub of-skipped : a .skips ≡ how-many is-skipped fs
-  pub of-whole : a .wholes ≡ how-many is-whole fs
-  pub of-compared : a .compares ≡ rows-compared ls fs
-  pub all-lines : how-many is-skipped fs + how-many is-whole fs + how-many is-compared fs ≡ length ls
 
 module _ (k : Kind) (low high : ℤ) where
   -- THE COUNTS ARE THOSE OF THE LINES' FATES, AND SKIPPED, WHOLE AND COMPARED LINES ARE ALL THE LINES

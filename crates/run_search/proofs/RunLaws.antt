@@ -19,8 +19,8 @@ use Rattle.bins.specs.declared.Fate.{Fate}
 use Rattle.bins.specs.declared.Fate.the-variants.{Skipped, Whole, Compared}
 use Rattle.dictionary.specs.Dictionary.{unpack, count-of, repeated}
 use Rattle.run_search.specs.Search.{scan, Answer, nothing, with-line, over, fates, search}
-use Rattle.dictionary.specs.Entries.{lines-in, uses}
-use Rattle.run_search.specs.Runs.{Asked, asking, fate-in, values, through, run-of, run-at, then, tally, plus, Within, row-at}
+use Rattle.dictionary.specs.loops.Entries.{lines-in, uses}
+use Rattle.run_search.specs.loops.Runs.{Asked, asking, fate-in, values, through, run-of, run-at, then, tally, plus, Within, row-at}
 use Rattle.run_search.specs.declared.Tally.{Tally}
 use Rattle.run_search.proofs.SearchLaws.{scan-append}
 

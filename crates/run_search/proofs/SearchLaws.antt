@@ -7,11 +7,10 @@ use native.Mathlib.Omega.{arith}
 use native.Mathlib.Nat.{add-zero}
 use lib.ListN.{length}
 use lib.IntN.{ℤ}
-use lib.Signed.{leZ}
 use Rattle.words.specs.Lists.{from, joined}
 use Rattle.words.specs.Bits.{share, outside}
 use Rattle.words.proofs.ListLaws.{joined-pieces}
-use Rattle.bins.specs.Bins.{Kind, bins, lines, imprint, imprints, rising}
+use Rattle.bins.specs.Bins.{Kind, InKind, bins, lines, imprint, imprints, rising}
 use Rattle.bins.specs.Masks.{matches, mask, inner, fate}
 use Rattle.bins.specs.declared.Fate.{Fate}
 use Rattle.bins.specs.declared.Fate.the-variants.{Skipped, Whole, Compared}
@@ -39,10 +38,6 @@ module _ (k : Kind) (low high : ℤ) where
       go false ih = ih
 
 -- ---- the search
-
--- every value lies in the kind's range
-abbrev pub InKind : Kind → List ℤ → Type 0
-InKind k col = (v : ℤ) → List·Memᴰ v col → (leZ (k .least) v ≡ true) × (leZ v (k .greatest) ≡ true)
 
 module _ (k : Kind) (bs : List ℤ) (low high : ℤ) (r : rising bs ≡ true) where
   abbrev fate-of : ℕ → Fate

@@ -1,11 +1,11 @@
-// What the searches of both widths share: what they count, and rows in a row. The search of a column of any kind is defined here, and its laws stand here.
+// What the searches of every kind of column share: what they count, and rows in a row. The search is defined here, over the kind, and its laws stand here.
 use bins::Row;
 ghost use mathlib.Core.Path.{_≡_};
 ghost use Prim.Native.Nat.{_+_, _≤_};
 ghost use lib.ListN.{length};
 ghost use lib.Seq.{sets};
 ghost use Rattle.words.specs.Lists.{from};
-ghost use Rattle.run_search.specs.Runs.{row-words};
+ghost use Rattle.run_search.specs.loops.Runs.{row-words};
 
 // What a search has counted so far: rows listed, lines skipped, lines whole, values compared.
 pub struct Tally {

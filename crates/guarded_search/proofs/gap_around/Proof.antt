@@ -7,7 +7,7 @@ use lib.ListN.{length, drop, getD}
 use mir.Syntax.{w32}
 use mir.ValLaws.{toZ-ofZ}
 use borrow.Author.Needs.{needs}
-use Rattle.guarded_search.specs.Steps.{narrow, narrow-all, widest}
+use Rattle.guarded_search.specs.loops.Steps.{narrow, narrow-all, widest}
 use Rattle.guarded_search.specs.declared.Gap.{Gap}
 use Rattle.guarded_search.proofs.NarrowLaws.{narrow-turn, narrow-end}
 use Rattle.guarded_search.proofs.gap_around.Statement.{statement}

@@ -4,7 +4,7 @@ use lib.IntN.{ℤ, pos, natAbs}
 use lib.Signed.{ltZ}
 use mir.Syntax.{w32}
 use mir.ValLaws.{toZ-ofZ}
-use Rattle.guarded_search.specs.Steps.{narrow-key}
+use Rattle.guarded_search.specs.loops.Steps.{narrow-key}
 use Rattle.guarded_search.proofs.NarrowLaws.{narrow-negative, natural-fits, narrow-natural}
 use borrow.Author.Needs.{needs}
 use Rattle.guarded_search.proofs.narrowed.Statement.{statement}

@@ -1,5 +1,5 @@
 use Rattle.halving_tree.specs.Tree.{treeOf, shift, paint}
-use Rattle.halving_tree.specs.Form.{splitsOf, joinForm, formOf}
+use Rattle.halving_tree.specs.loops.Form.{splitsOf, joinForm, formOf}
 use Rattle.halving_tree.proofs.PaintLaws.{paint-none}
 use Rattle.halving_tree.proofs.AfterLaws as laws
 use mathlib.Core.Path.{ap, ap₂, sym, _∙_}

@@ -2,7 +2,7 @@ use borrow.Author.Needs.{needs}
 use denote.Ref.{now}
 use native.Mathlib.Omega.{arith}
 use mathlib.Core.Path.{subst}
-use Rattle.halving_tree.specs.Place.{Says, AllIn}
+use Rattle.halving_tree.specs.loops.Place.{Says, AllIn}
 use Rattle.halving_tree.specs.Tree.{shift}
 use Rattle.halving_tree.proofs.AskLaws as laws
 use Prim.Native.Nat.{ℕ, _-_, _/_, _^_, _<_}

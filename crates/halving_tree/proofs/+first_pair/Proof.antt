@@ -1,4 +1,4 @@
-use Rattle.halving_tree.specs.Found.{Below, firstFrom, orElse}
+use Rattle.halving_tree.specs.loops.Found.{Below, firstFrom, orElse}
 use Rattle.halving_tree.specs.Tree.{treeOf, shift}
 use Rattle.halving_tree.proofs.ForgetLaws as laws
 use Rattle.halving_tree.proofs.AskLaws as ask

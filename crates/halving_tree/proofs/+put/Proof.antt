@@ -1,6 +1,6 @@
 use lib.ListN.{length, set, length-set}
 use Rattle.halving_tree.specs.Tree.{treeOf, shift, paint}
-use Rattle.halving_tree.specs.Form.{kindOf, formOf, Fill}
+use Rattle.halving_tree.specs.loops.Form.{kindOf, formOf, Fill}
 use Rattle.halving_tree.proofs.PutLaws as laws
 use Rattle.halving_tree.proofs.AfterLaws as alaws
 use mathlib.Core.Bool.{Bool}

@@ -5,7 +5,7 @@ use Rattle.halving_tree.proofs.SeenLaws as laws
 use mathlib.Core.Path.{subst}
 use mathlib.Core.Logic.{⊎-elim}
 use mathlib.Core.Logic.{⊎-elim}
-use Rattle.halving_tree.specs.Seen.{Saw}
+use Rattle.halving_tree.specs.loops.Seen.{Saw}
 use Prim.Native.Nat.{ℕ, _+_, _-_, _<_}
 use borrow.Fn.Kinds.{In}
 use borrow.Fn.PlainCycle.{Measures, is, falls, and}

@@ -1,6 +1,6 @@
 -- `choose` meets its contract. Assumes nothing.
 use mathlib.Core.Path.{ap₂, sym, subst, _∙_}
-use Rattle.halving_tree.specs.Found.{orElse, Below}
+use Rattle.halving_tree.specs.loops.Found.{orElse, Below}
 use Rattle.halving_tree.specs.declared.Found.{Found}
 use Rattle.halving_tree.proofs.ForgetLaws.{or-below}
 use borrow.Author.Needs.{needs}

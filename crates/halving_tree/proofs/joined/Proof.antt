@@ -1,4 +1,4 @@
-use Rattle.halving_tree.specs.Form.{splitsOf, joinForm}
+use Rattle.halving_tree.specs.loops.Form.{splitsOf, joinForm}
 use mathlib.Core.Path.{ap, sym, ap₂}
 use native.Mathlib.Omega.{arith}
 use borrow.Author.Needs.{needs}

@@ -1,4 +1,4 @@
-use Rattle.halving_tree.specs.Found.{orElse}
+use Rattle.halving_tree.specs.loops.Found.{orElse}
 use mathlib.Core.Path.{ap, sym}
 use borrow.Author.Needs.{needs}
 use borrow.Author.Needs.{needs}

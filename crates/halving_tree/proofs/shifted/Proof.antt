@@ -1,4 +1,4 @@
-use Rattle.halving_tree.specs.Found.{moved, Below}
+use Rattle.halving_tree.specs.loops.Found.{moved, Below}
 use native.Mathlib.Omega.{arith}
 use mathlib.Core.Path.{ap, sym, subst}
 use borrow.Author.Needs.{needs}

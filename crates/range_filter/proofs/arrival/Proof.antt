@@ -4,7 +4,7 @@ use mathlib.Core.Bool.{false}
 use denote.Ref.{now}
 use native.Mathlib.Omega.{arith}
 use Rattle.range_filter.specs.Calls.{arrived}
-use Rattle.range_filter.specs.Loaded.{IsLoaded}
+use Rattle.range_filter.specs.loops.Loaded.{IsLoaded}
 use Rattle.range_filter.specs.Promise.{arrivedNumber, arriveAnswer}
 use Rattle.range_filter.specs.declared.Arrived.the-variants as came
 use Rattle.range_filter.proofs.PromiseLaws.{kept-bad, kept-good, span-is, key-outside, key-inside, tree-here}

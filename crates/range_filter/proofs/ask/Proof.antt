@@ -4,7 +4,7 @@ use mathlib.Core.Bool.{Bool, cond}
 use denote.Ref.{now}
 use native.Mathlib.Omega.{arith}
 use Rattle.range_filter.specs.Calls.{allIn}
-use Rattle.range_filter.specs.Loaded.{IsLoaded}
+use Rattle.range_filter.specs.loops.Loaded.{IsLoaded}
 use Rattle.range_filter.specs.Promise.{askAnswer}
 use Rattle.range_filter.specs.declared.Asked.the-variants as asked
 use Rattle.range_filter.proofs.PromiseLaws.{told-bad, told-good, span-is, low-outside, high-outside, out-of-order, in-order, says-is, tree-here}

@@ -6,8 +6,8 @@ use native.Mathlib.Omega.{arith}
 use lib.Pow.{pow-pos}
 use Rattle.range_filter.specs.Layout.{treeIn}
 use Rattle.range_filter.specs.Calls.{forgotten}
-use Rattle.halving_tree.specs.Found.{Below}
-use Rattle.range_filter.specs.Loaded.{IsLoaded}
+use Rattle.halving_tree.specs.loops.Found.{Below}
+use Rattle.range_filter.specs.loops.Loaded.{IsLoaded}
 use Rattle.range_filter.specs.Promise.{forgotNumber, forgetAnswer}
 use Rattle.halving_tree.specs.declared.Found.{Found}
 use Rattle.range_filter.specs.declared.Forgot.the-variants as forgot

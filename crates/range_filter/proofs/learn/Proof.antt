@@ -4,7 +4,7 @@ use mathlib.Core.Bool.{Bool, true, cond}
 use Prim.Native.Nat.{ℕ, _≤_}
 use denote.Ref.{now}
 use Rattle.range_filter.specs.Calls.{learnt, tooMany}
-use Rattle.range_filter.specs.Loaded.{IsLoaded}
+use Rattle.range_filter.specs.loops.Loaded.{IsLoaded}
 use Rattle.range_filter.specs.Promise.{learntNumber, learnAnswer}
 use Rattle.range_filter.specs.declared.Learnt.the-variants as taught
 use Rattle.range_filter.proofs.PromiseLaws.{kept-bad, kept-good, span-is, low-outside, high-outside, out-of-order, in-order}

@@ -1,5 +1,5 @@
 use Rattle.range_filter.proofs.LoadLaws as laws
-use Rattle.halving_tree.specs.Seen.{Saw}
+use Rattle.halving_tree.specs.loops.Seen.{Saw}
 use lib.ListN.{getD}
 use Rattle.range_filter.proofs.LayoutLaws.{levels-word, room-word, hand-word}
 use mathlib.Core.Path.{subst}

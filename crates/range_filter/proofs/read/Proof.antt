@@ -2,7 +2,7 @@
 use mathlib.Core.Path.{subst}
 use denote.Ref.{now}
 use native.Mathlib.Omega.{arith}
-use Rattle.range_filter.specs.Loaded.{IsLoaded}
+use Rattle.range_filter.specs.loops.Loaded.{IsLoaded}
 use Rattle.range_filter.specs.Promise.{readAnswer}
 use Rattle.range_filter.specs.declared.Reading.the-variants.{NoFilter}
 use Rattle.range_filter.proofs.PromiseLaws.{told-bad, told-good}

@@ -7,8 +7,8 @@ use Rattle.words.proofs.ListLaws.{sets-filled}
 use Rattle.bins.specs.Bins.{readings}
 use Rattle.dictionary.specs.Dictionary.{unpack}
 use Rattle.run_search.specs.Search.{Answer}
-use Rattle.run_search.specs.Runs.{through, tally}
-use Rattle.reading_search.specs.Ask.{asked-of}
+use Rattle.run_search.specs.loops.Runs.{through, tally}
+use Rattle.reading_search.specs.loops.Ask.{asked-of}
 use Rattle.run_search.specs.declared.Tally.{Tally}
 use Rattle.column_index.specs.declared.SearchAnswer.the-variants as searching
 use Rattle.run_search.proofs.RunLaws.{plus-none}

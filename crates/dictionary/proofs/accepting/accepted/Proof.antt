@@ -3,7 +3,7 @@ use mathlib.Core.Path.{sym, _∙_, ap}
 use mathlib.Core.Bool.{Bool, _&&_}
 use denote.Ref.{now}
 use Rattle.dictionary.specs.declared.accepting.Past.the-variants.{Start}
-use Rattle.dictionary.specs.Scan.{preceding, scan}
+use Rattle.dictionary.specs.loops.Scan.{preceding, scan}
 use Rattle.dictionary.proofs.ScanLaws.{scan-accepts}
 use borrow.Author.Needs.{needs}
 use Rattle.dictionary.proofs.accepting.accepted.Statement.{statement}

@@ -4,7 +4,7 @@ use mathlib.Core.Path.{_≡_, refl, sym, _∙_}
 use native.Mathlib.Omega.{arith}
 use lib.ListN.{getD, take, drop}
 use denote.Ref.{now}
-use Rattle.dictionary.specs.Scan.{neighbours}
+use Rattle.dictionary.specs.loops.Scan.{neighbours}
 use Rattle.dictionary.proofs.GoodLaws.{equal-next, other-next, no-next}
 use Rattle.dictionary.proofs.accepting.differing.Statement.{statement}
 use Rattle.dictionary.proofs.accepting.differing.Tie as tie

@@ -9,7 +9,7 @@ use borrow.Author.Needs.{needs}
 use borrow.Author.Tests.{not-true, not-false}
 use denote.Ref.{now}
 use Rattle.dictionary.specs.Dictionary.{count-of}
-use Rattle.dictionary.specs.Scan.{good-entry, after-entry}
+use Rattle.dictionary.specs.loops.Scan.{good-entry, after-entry}
 use Rattle.dictionary.proofs.GoodLaws.{Fits, good-fits, Scanning, scanning-starts, scanning-refuses, scanning-turns, scanning-unused, scanning-ends}
 use Rattle.dictionary.proofs.accepting.scanned.Statement.{statement}
 use Rattle.dictionary.proofs.accepting.scanned.Tie as tie

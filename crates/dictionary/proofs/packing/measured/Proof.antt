@@ -6,7 +6,7 @@ use lib.ListN.{length, drop, getD}
 use borrow.Author.Needs.{needs}
 use denote.Ref.{now}
 use Rattle.dictionary.specs.Dictionary.{largest}
-use Rattle.dictionary.specs.Packer.{packer, after, move-on}
+use Rattle.dictionary.specs.loops.Packer.{packer, after, move-on}
 use Rattle.dictionary.proofs.PackLoops.{Measuring, measuring-starts, measuring-next, measuring-ends, words-within, kept-within, dict-short, imps-short}
 use Rattle.dictionary.proofs.packing.measured.Statement.{statement}
 use Rattle.dictionary.proofs.packing.measured.Tie as tie

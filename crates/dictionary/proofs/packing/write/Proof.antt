@@ -6,7 +6,7 @@ use lib.ListN.{length, drop, getD}
 use borrow.Author.Needs.{needs}
 use denote.Ref.{now}
 use Rattle.dictionary.specs.Dictionary.{largest}
-use Rattle.dictionary.specs.Packer.{packer, after, move-on}
+use Rattle.dictionary.specs.loops.Packer.{packer, after, move-on}
 use Rattle.dictionary.proofs.PackLoops.{measuring-next, words-within, kept-within, Writing, writing-starts, writing-next, writing-ends}
 use Rattle.dictionary.proofs.packing.write.Statement.{statement}
 use Rattle.dictionary.proofs.packing.write.Tie as tie

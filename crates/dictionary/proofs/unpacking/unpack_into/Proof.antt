@@ -7,7 +7,7 @@ use lib.ListN.{length, drop, getD}
 use lib.Seq.{sets}
 use borrow.Author.Needs.{needs}
 use denote.Ref.{now}
-use Rattle.dictionary.specs.Entries.{lines-in}
+use Rattle.dictionary.specs.loops.Entries.{lines-in}
 use Rattle.dictionary.proofs.EntryLaws.{Unpacking, unpacking-starts, unpacking-room, unpacking-turns, unpacking-ends}
 use Rattle.dictionary.proofs.unpacking.unpack_into.Statement.{statement}
 use Rattle.dictionary.proofs.unpacking.unpack_into.Tie as tie

@@ -7,7 +7,7 @@ use lib.ListN.{drop}
 use borrow.Author.Needs.{needs}
 use Rattle.bins.specs.Bins.{readings, imprints}
 use Rattle.dictionary.specs.Dictionary.{largest}
-use Rattle.dictionary.specs.Packer.{after, move-on}
+use Rattle.dictionary.specs.loops.Packer.{after, move-on}
 use Rattle.dictionary.proofs.PackLoops.{Measuring, measuring-starts, words-within, kept-within}
 use Rattle.column_index.proofs.ColumnLaws.{line-inside, column-measures, column-measured, column-imps-short, column-dict-short}
 use Rattle.reading_index.proofs.made.measure_column.Statement.{statement}

@@ -7,7 +7,7 @@ use lib.ListN.{drop}
 use borrow.Author.Needs.{needs}
 use Rattle.bins.specs.Bins.{readings, imprints}
 use Rattle.dictionary.specs.Dictionary.{largest}
-use Rattle.dictionary.specs.Packer.{after, move-on}
+use Rattle.dictionary.specs.loops.Packer.{after, move-on}
 use Rattle.dictionary.proofs.PackLoops.{Writing, writing-starts, words-within, kept-within}
 use Rattle.column_index.proofs.ColumnLaws.{line-inside, column-measures, column-writes, column-written, column-dict-short}
 use Rattle.reading_index.proofs.made.write_column.Statement.{statement}

@@ -9,9 +9,9 @@ use borrow.Author.Needs.{needs}
 use Rattle.words.proofs.ListLaws.{part-from}
 use Rattle.bins.specs.Bins.{readings}
 use Rattle.dictionary.specs.Dictionary.{count-of}
-use Rattle.dictionary.specs.Entries.{lines-in}
-use Rattle.run_search.specs.Runs.{through}
-use Rattle.reading_search.specs.Ask.{asked-of}
+use Rattle.dictionary.specs.loops.Entries.{lines-in}
+use Rattle.run_search.specs.loops.Runs.{through}
+use Rattle.reading_search.specs.loops.Ask.{asked-of}
 use Rattle.run_search.proofs.EntryLaws.{going-next}
 use Rattle.run_search.proofs.FillLaws.{Filling, filling-starts, filling-next, filling-ends, filling-room}
 use Rattle.reading_search.proofs.listed.fill_all.Statement.{statement}

@@ -9,9 +9,9 @@ use lib.Seq.{length-take-le, sets}
 use Rattle.bins.specs.Bins.{readings}
 use Rattle.dictionary.specs.Dictionary.{count-of, repeated}
 use Rattle.run_search.specs.Search.{Answer}
-use Rattle.dictionary.specs.Entries.{lines-in}
-use Rattle.run_search.specs.Runs.{through, run-at}
-use Rattle.reading_search.specs.Ask.{asked-of}
+use Rattle.dictionary.specs.loops.Entries.{lines-in}
+use Rattle.run_search.specs.loops.Runs.{through, run-at}
+use Rattle.reading_search.specs.loops.Ask.{asked-of}
 use Rattle.run_search.proofs.RunLaws.{through-run}
 use Rattle.run_search.proofs.EntryLaws.{lines-repeat, lines-plain}
 use Rattle.dictionary.proofs.GoodLaws.{uses-one, uses-all}

@@ -5,8 +5,8 @@ use native.Mathlib.Omega.{arith}
 use lib.ListN.{length, drop, getD, length-append}
 use borrow.Author.Needs.{needs}
 use Rattle.bins.specs.Bins.{readings}
-use Rattle.run_search.specs.Runs.{through, run-at}
-use Rattle.reading_search.specs.Ask.{asked-of}
+use Rattle.run_search.specs.loops.Runs.{through, run-at}
+use Rattle.reading_search.specs.loops.Ask.{asked-of}
 use Rattle.run_search.proofs.FillLaws.{Listing, listing-next, listing-ends, listing-room, through-starts, lines-ids, lines-no-ids}
 use Rattle.reading_search.proofs.listed.fill_plain.Statement.{statement}
 use Rattle.reading_search.proofs.listed.fill_plain.Tie as tie

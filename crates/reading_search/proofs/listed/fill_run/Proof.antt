@@ -12,8 +12,8 @@ use Rattle.words.specs.Lists.{from}
 use Rattle.words.proofs.ListLaws.{length-from}
 use Rattle.bins.specs.Bins.{readings}
 use Rattle.run_search.specs.Search.{scan}
-use Rattle.run_search.specs.Runs.{fate-in, values}
-use Rattle.reading_search.specs.Ask.{asked-of}
+use Rattle.run_search.specs.loops.Runs.{fate-in, values}
+use Rattle.reading_search.specs.loops.Ask.{asked-of}
 use Rattle.run_search.proofs.FillLaws.{skipped-ids, whole-ids, compared-ids, rows-end}
 use borrow.Author.Needs.{needs}
 use Rattle.reading_search.proofs.listed.fill_run.Statement.{statement}

@@ -8,9 +8,9 @@ use borrow.Author.Needs.{needs}
 use Rattle.words.proofs.ListLaws.{part-from}
 use Rattle.bins.specs.Bins.{readings}
 use Rattle.dictionary.specs.Dictionary.{count-of}
-use Rattle.dictionary.specs.Entries.{lines-in}
-use Rattle.run_search.specs.Runs.{through, plus}
-use Rattle.reading_search.specs.Ask.{asked-of}
+use Rattle.dictionary.specs.loops.Entries.{lines-in}
+use Rattle.run_search.specs.loops.Runs.{through, plus}
+use Rattle.reading_search.specs.loops.Ask.{asked-of}
 use Rattle.run_search.proofs.EntryLaws.{Counting, counting-starts, counting-next, counting-ends, going-next}
 use Rattle.reading_search.proofs.rows.count_all.Statement.{statement}
 use Rattle.reading_search.proofs.rows.count_all.Tie as tie

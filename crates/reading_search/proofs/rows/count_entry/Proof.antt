@@ -8,8 +8,8 @@ use lib.ListN.{length, take, getD}
 use lib.Seq.{length-take-le}
 use Rattle.bins.specs.Bins.{readings}
 use Rattle.dictionary.specs.Dictionary.{count-of, repeated}
-use Rattle.run_search.specs.Runs.{through, run-at, plus}
-use Rattle.reading_search.specs.Ask.{asked-of}
+use Rattle.run_search.specs.loops.Runs.{through, run-at, plus}
+use Rattle.reading_search.specs.loops.Ask.{asked-of}
 use Rattle.run_search.proofs.RunLaws.{through-run}
 use Rattle.run_search.proofs.EntryLaws.{lines-repeat, lines-plain}
 use Rattle.dictionary.proofs.GoodLaws.{uses-one, uses-all}

@@ -6,8 +6,8 @@ use native.Mathlib.Nat.{add-zero}
 use lib.ListN.{length, drop, getD}
 use borrow.Author.Needs.{needs}
 use Rattle.bins.specs.Bins.{readings}
-use Rattle.run_search.specs.Runs.{through, run-at, plus, Within}
-use Rattle.reading_search.specs.Ask.{asked-of}
+use Rattle.run_search.specs.loops.Runs.{through, run-at, plus, Within}
+use Rattle.reading_search.specs.loops.Ask.{asked-of}
 use Rattle.run_search.specs.declared.Tally.{Tally}
 use Rattle.run_search.proofs.RunLaws.{plus-then, plus-nothing, run-at-within, values-length}
 use Rattle.run_search.proofs.EntryLaws.{lines-turn, lines-end}

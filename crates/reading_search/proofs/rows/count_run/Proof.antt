@@ -6,8 +6,8 @@ use lib.IntN.{ℤ}
 use mathlib.Core.List.{List}
 use borrow.Author.Needs.{needs}
 use Rattle.bins.specs.Bins.{readings}
-use Rattle.run_search.specs.Runs.{fate-in}
-use Rattle.reading_search.specs.Ask.{asked-of}
+use Rattle.run_search.specs.loops.Runs.{fate-in}
+use Rattle.reading_search.specs.loops.Ask.{asked-of}
 use Rattle.run_search.specs.Search.{scan}
 use Rattle.run_search.proofs.RunLaws.{skipped-run, whole-run, compared-run, values-within}
 use Rattle.reading_search.proofs.rows.count_run.Statement.{statement}

@@ -3,7 +3,7 @@ use mathlib.Core.Path.{_∙_, ap}
 use Prim.Native.Nat.{ℕ}
 use lib.Seq.{sets}
 use denote.Ref.{now}
-use Rattle.dictionary.specs.Packer.{settled}
+use Rattle.dictionary.specs.loops.Packer.{settled}
 use borrow.Author.Needs.{needs}
 use Rattle.dictionary.proofs.packing.Packer.closed.Statement.{statement}
 use Rattle.dictionary.proofs.packing.Packer.closed.Tie as tie

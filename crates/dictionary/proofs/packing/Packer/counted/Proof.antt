@@ -1,6 +1,6 @@
 -- One more imprint, measured. Assumes nothing.
 use Rattle.dictionary.specs.Dictionary.{largest}
-use Rattle.dictionary.specs.Packer.{move-on}
+use Rattle.dictionary.specs.loops.Packer.{move-on}
 use Rattle.dictionary.proofs.TurnLaws.{after-is}
 use borrow.Author.Needs.{needs}
 use Rattle.dictionary.proofs.packing.Packer.counted.Statement.{statement}

@@ -2,7 +2,7 @@
 use mathlib.Core.Path.{_∙_, ap}
 use Prim.Native.Nat.{ℕ, _+_}
 use lib.ListN.{length}
-use Rattle.dictionary.specs.Packer.{settled}
+use Rattle.dictionary.specs.loops.Packer.{settled}
 use borrow.Author.Needs.{needs}
 use Rattle.dictionary.proofs.packing.Packer.ends.Statement.{statement}
 use Rattle.dictionary.proofs.packing.Packer.ends.Tie as tie

@@ -5,7 +5,7 @@ use lib.Seq.{sets}
 use denote.Ref.{now}
 use Rattle.dictionary.specs.declared.packing.Turn.{Turn}
 use Rattle.dictionary.specs.Dictionary.{largest}
-use Rattle.dictionary.specs.Packer.{settled, added, move-on}
+use Rattle.dictionary.specs.loops.Packer.{settled, added, move-on}
 use Rattle.dictionary.proofs.TurnLaws.{after-is}
 use borrow.Author.Needs.{needs}
 use Rattle.dictionary.proofs.packing.Packer.pushed.Statement.{statement}

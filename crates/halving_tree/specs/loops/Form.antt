@@ -6,7 +6,7 @@ use lib.Seq.{sets}
 use Prim.Native.Nat.{ℕ, _+_, _-_, _^_, _≤_, _<_}
 use Rattle.halving_tree.specs.Tree.{Tree, leaf, node, treeOf, splits, shift, paint}
 use Rattle.halving_tree.specs.Encode.{size, encode}
-use Rattle.halving_tree.specs.Place.{At}
+use Rattle.halving_tree.specs.loops.Place.{At}
 use Rattle.halving_tree.specs.declared.Form.{Form}
 use Rattle.halving_tree.specs.declared.Form.the-variants.{Out, In, Mixed}
 

@@ -9,7 +9,7 @@ use Rattle.bins.specs.Masks.{mask, inner, fate}
 use Rattle.bins.specs.declared.Fate.{Fate}
 use Rattle.bins.specs.declared.Fate.the-variants.{Skipped, Whole, Compared}
 use Rattle.dictionary.specs.Dictionary.{count-of}
-use Rattle.dictionary.specs.Entries.{uses}
+use Rattle.dictionary.specs.loops.Entries.{uses}
 use Rattle.run_search.specs.Search.{scan, Answer, nothing, with-line}
 use Rattle.run_search.specs.declared.Tally.{Tally}
 

@@ -5,7 +5,7 @@ use mathlib.Core.Bool.{Bool, true, false, cond, not, _&&_}
 use lib.Dec.{leb, ltb, eqb}
 use lib.ListN.{length, getD, take, drop}
 use Rattle.dictionary.specs.Dictionary.{largest, count-of, repeated}
-use Rattle.dictionary.specs.Entries.{uses}
+use Rattle.dictionary.specs.loops.Entries.{uses}
 use Rattle.dictionary.specs.declared.accepting.Past.{Past}
 use Rattle.dictionary.specs.declared.accepting.Past.the-variants.{Start, Short, FullRun, Other}
 use Rattle.dictionary.specs.declared.accepting.Before.{Before}

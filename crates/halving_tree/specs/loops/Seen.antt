@@ -5,7 +5,7 @@ use mathlib.Core.List.{List}
 use Prim.Native.Nat.{ℕ}
 use Rattle.halving_tree.specs.Tree.{treeOf}
 use Rattle.halving_tree.specs.Encode.{size}
-use Rattle.halving_tree.specs.Place.{At}
+use Rattle.halving_tree.specs.loops.Place.{At}
 use Rattle.halving_tree.specs.declared.Seen.{Seen}
 use Rattle.halving_tree.specs.declared.Seen.the-variants.{Bad, Good}
 

@@ -7,8 +7,8 @@ use lib.ListN.{length}
 use lib.Seq.{sets}
 use Rattle.halving_tree.specs.Tree.{treeOf, paint}
 use Rattle.halving_tree.specs.Encode.{encode}
-use Rattle.halving_tree.specs.Place.{At}
-use Rattle.halving_tree.specs.Form.{Fill}
+use Rattle.halving_tree.specs.loops.Place.{At}
+use Rattle.halving_tree.specs.loops.Form.{Fill}
 
 -- a tree of few words lies at 3, and its words have room for it after the painting
 pub record Ready (w : List ℕ) (n k span lo hi : ℕ) (b : Bool) : Type 0 where
