@@ -60,7 +60,8 @@ struct mgz_packed {
     uint64_t dictionary;
 };
 
-/* A step: the imprint of the line, and the position after it. At the end `ended` is 1, `imprint` 0, and the position stays. */
+/* A step: the imprint of the line, and the position after it. At the end `ended` is 1, `imprint` 0, and the position is the one handed
+ * in. A bad position has all five words 0. */
 struct mgz_stepped {
     uint64_t ended;
     uint64_t imprint;
@@ -87,7 +88,7 @@ struct mgz_filter {
 };
 
 enum mgz_outcome {
-    MGZ_DENIED = 0,          /* the filter knows that the range is empty: nothing was looked at */
+    MGZ_DENIED = 0,          /* the filter remembers the range as empty: no row, all counts 0 */
     MGZ_FOUND = 1,           /* rows were listed */
     MGZ_EMPTY_LEARNT = 2,    /* no row, and the filter has learnt the gap */
     MGZ_EMPTY_NOT_LEARNT = 3 /* no row, and the filter stands as it was */
@@ -121,7 +122,9 @@ uint32_t mgz_unpack(const int32_t *borders, size_t borders_length, const uint64_
 uint32_t mgz_step(const uint32_t *dictionary, size_t dictionary_length, const uint64_t *imprints, size_t imprints_length, uint64_t entry,
                   uint64_t place, uint64_t number, struct mgz_stepped *out);
 
-/* The rows whose values lie in low to high, both included, rising, at the front of `ids`. Numbers: 2, 5, 3, 1, 4. */
+/* The rows whose values lie in low to high, both included, rising, at the front of `ids`: so with the index built from the column. With any
+ * other index that is not refused, the rows of the lines that it takes whole, and the matching rows of those that it has compared.
+ * Numbers: 2, 5, 3, 1, 4. */
 uint32_t mgz_search(const int32_t *column, size_t column_length, const int32_t *borders, size_t borders_length, const uint64_t *imprints,
                     size_t imprints_length, const uint32_t *dictionary, size_t dictionary_length, int32_t low, int32_t high,
                     uint32_t *ids, size_t ids_length, struct mgz_found *out);
@@ -132,7 +135,8 @@ uint64_t mgz_filter_words(uint32_t room);
 /* A filter of keys 0 to 2^levels - 1 that remembers nothing. `needed` is as above. Numbers: 6, 11, 4. */
 uint32_t mgz_filter_fresh(uint32_t levels, uint32_t room, uint32_t *words, size_t words_length, uint64_t *needed);
 
-/* May the range low to high hold a sample? `look` is 0 if the filter remembers it as empty (denied), else 1. Numbers: 8, 7, 1. */
+/* May the range low to high hold a sample? At MGZ_DONE `look` is 0 if the filter remembers it as empty (denied), else 1.
+ * Numbers: 8, 7, 1. */
 uint32_t mgz_filter_ask(const uint32_t *words, size_t words_length, uint32_t low, uint32_t high, uint32_t *look);
 
 /* Remembers the range low to high as empty. Numbers: 8, 7, 1, 9. */
@@ -151,7 +155,7 @@ uint32_t mgz_filter_forget(uint32_t *words, size_t words_length);
 uint32_t mgz_filter_read(const uint32_t *words, size_t words_length, struct mgz_filter *out);
 
 /* The search with both, over the time column in minutes: asks the filter first, searches if it says look, and lets it learn the gap if no
- * row is there. Filter words change at MGZ_EMPTY_LEARNT only. Numbers: 8, 7, 1, 2, 5, 3, and 4 if the filter says look. */
+ * value is there. Filter words change at MGZ_EMPTY_LEARNT only. Numbers: 8, 7, 1, 2, 5, 3, and 4 if the filter says look. */
 uint32_t mgz_guarded_search(uint32_t *words, size_t words_length, const int32_t *column, size_t column_length, const int32_t *borders,
                             size_t borders_length, const uint64_t *imprints, size_t imprints_length, const uint32_t *dictionary,
                             size_t dictionary_length, uint32_t low, uint32_t high, uint32_t *ids, size_t ids_length,

@@ -175,7 +175,7 @@ impl<W: AsRef<[u32]> + AsMut<[u32]>> Filter<W> {
 /// What a search with both came to.
 #[derive(Debug, PartialEq, Eq)]
 pub enum Outcome<'a> {
-    /// The filter knows that the range is empty: nothing was looked at.
+    /// The filter remembers the range as empty: no row, all counts 0.
     Denied,
     /// Rows were listed.
     Found(Found<'a>),
@@ -186,7 +186,7 @@ pub enum Outcome<'a> {
 }
 
 /// The search with both, over the time column in minutes: asks the filter first, searches if it says look, and lets it learn the gap if
-/// no row is there.
+/// no value is there.
 ///
 /// ```
 /// use miguzoryane::{guarded_search, Filter, IndexBuf, Outcome};

@@ -201,7 +201,8 @@ pub struct Found<'a> {
     pub counts: Counts,
 }
 
-/// Lists the rows whose values lie in a range, both ends included, at the front of a lent space.
+/// Lists the rows whose values lie in a range, both ends included, at the front of a lent space: so with the index built from the column.
+/// With any other index that is not refused, it lists the rows of the lines that it takes whole, and the matching rows of those compared.
 ///
 /// ```
 /// use miguzoryane::{search, Error, IndexBuf};

@@ -12,7 +12,7 @@ use Rattle.column_index.specs.declared.UnpackAnswer.{UnpackAnswer}
 abbrev pub unpack-needed : UnpackAnswer → ℕ
 unpack-needed a = getD (unpack-beside a) 0 0
 
--- one step of a line reader; 3 is a bad position. Beside the number: ended, imprint, and the position afterwards as entry, place and number
+-- one step of a line reader; 3 is a bad position. Beside the number: ended, imprint, and the position afterwards as entry, place and number; all 0 beside 3
 abbrev pub step-number : Step → ℕ
 step-number (Line i p) = numbered done
 step-number (Ended p) = numbered done

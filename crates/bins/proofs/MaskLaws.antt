@@ -1,4 +1,4 @@
--- What the masks are for: a skipped line has no matching row, and of a whole line every row matches. Assumes nothing.
+-- What the masks are for: where an imprint lacks no bit, a skipped line has no matching row, and of a whole line every row matches. Assumes nothing.
 use Prim.Native.Nat.{ℕ, _<_}
 use mathlib.Core.Path.{_≡_, refl, sym, _∙_, ap}
 use mathlib.Core.List.{List, List·Memᴰ}

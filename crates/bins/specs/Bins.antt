@@ -10,7 +10,7 @@ use lib.Signed.{leZ, ltZ}
 use Rattle.words.specs.Lists.{from, ceil, pieces, has}
 use Rattle.words.specs.Bits.{word}
 
--- A kind of column: how many rows a line has, and the least and the greatest value.
+-- A kind of column: how many rows a line has, and the least and the greatest value. Sample, bin and match take it too; they are the same for every kind.
 pub record Kind : Type 0 where
   pub per : ℕ
   pub least : ℤ
@@ -28,7 +28,7 @@ InKind k col = (v : ℤ) → List·Memᴰ v col → (leZ (k .least) v ≡ true) 
 abbrev pub most-rows : ℕ
 most-rows = 16777216
 
--- and the most lines of a list
+-- and the most lines of a list: as many as those rows make
 abbrev pub most-lines : Kind → ℕ
 most-lines k = ceil most-rows (k .per)
 
@@ -38,9 +38,11 @@ lines k col = pieces (k .per) col
 
 -- ---- the sample: rows 0, s, 2s and so on
 
+-- the stride s: 1 for up to 2,048 rows, else ceil(rows / 2,048)
 abbrev pub stride : ℕ → ℕ
 stride rows = cond (leb rows 2048) 1 (ceil rows 2048)
 
+-- the values at those rows
 unfoldable pub sampled : ℕ → List ℤ → List ℤ
 sampled s col = map (λ (i : ℕ). getD col (i * s) (pos 0)) (from 0 (ceil (length col) s))
 
@@ -76,7 +78,7 @@ once (x ∷ xs) = keep x (once xs)
 unfoldable pub spread : List ℤ → List ℤ
 spread s = map (λ (i : ℕ). getD s (i * length s / 62) (pos 0)) (from 0 62) ++ (getD s (length s - 1) (pos 0) ∷ [])
 
--- d: the different values of s
+-- d: the different values of s. Up to 62 they are the borders, else the spread is, equal ones kept once
 unfoldable pub borders-of : List ℤ → List ℤ → List ℤ
 borders-of s d = let w = once (spread s) in cond (leb (length d) 62) d w
 

@@ -30,6 +30,7 @@ asked k bs low high b = leb (bin k bs low) b && leb b (bin k bs high)
 unfoldable pub inside : Kind → List ℤ → ℤ → ℤ → ℕ → Bool
 inside k bs low high b = asked k bs low high b && (leZ low (first-of k bs b) && leZ (last-of k bs b) high)
 
+-- the mask, and the inner mask: the words of those bins
 unfoldable pub mask : Kind → List ℤ → ℤ → ℤ → ℕ
 mask k bs low high = word (bins bs) (asked k bs low high)
 

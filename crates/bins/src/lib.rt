@@ -1,4 +1,4 @@
-// What every kind of column shares: kinds of number, the words of masks, and what becomes of a line. Bins and imprints are defined here, over the kind, and their laws stand here.
+// What every kind of column shares: the most rows, kinds of number, the sample's stride, the words of masks, and what becomes of a line. Bins and imprints are defined here, over the kind, and their laws stand here.
 ghost use mathlib.Core.Path.{_≡_};
 ghost use Prim.Native.Nat.{ℕ, _+_, _^_, _<_, _≤_};
 ghost use mathlib.Core.Bool.{_&&_};

@@ -46,7 +46,7 @@ pub record UnpackFace (bs : List ℤ) (is ds : List ℕ) (lines : ℕ) (ws : Lis
   pub number : n ≡ numbered (unpack-number answer)
   pub needed : needed′ ≡ unpack-needed answer
 
--- one step of a line reader; beside the number: ended, imprint, and the position afterwards as entry, place and number
+-- one step of a line reader; beside the number: ended, imprint, and the position afterwards as entry, place and number; all 0 beside 3
 pub record StepFace (ds is : List ℕ) (entry place at : ℕ) (n : ℕ) (out′ : List ℕ) : Type 0 where
   pub number : n ≡ step-number (step ds is (position entry place at))
   pub words : out′ ≡ step-beside (step ds is (position entry place at))
@@ -74,6 +74,7 @@ pub record AskFace (w : List ℕ) (lo hi : ℕ) (n look′ : ℕ) : Type 0 where
   pub number : n ≡ askedNumber answer
   pub look : look′ ≡ askedBeside answer
 
+-- learn, arrival, departure and forget: the number alone
 pub record LearnFace (w : List ℕ) (lo hi : ℕ) (n : ℕ) (w′ : List ℕ) : Type 0 where
   pub answer : Learnt
   pub learns : Learn w lo hi answer w′

@@ -31,7 +31,7 @@ pub extern "C" fn mgz_filter_fresh(
 
 // ---- ask
 
-// Whether a key of low to high may be present: look is 0 where all of them are remembered as empty, else 1.
+// Whether a key of low to high may be present: beside number 0, look is 0 where all of them are remembered as empty, else 1. Beside any other it is 0.
 #[no_mangle]
 pub extern "C" fn mgz_filter_ask(words: &[u32], low: u32, high: u32, look: &mut u32) -> u32
     ensures { λ r. ⌜ AskFace (now (words .entry)) low high r (now (look .exit)) ⌝ }

@@ -59,7 +59,7 @@ pub extern "C" fn mgz_unpack(
 
 // ---- one step of a line reader
 
-// The next line's imprint at a position. Beside the number: ended, imprint, and the position afterwards.
+// The next line's imprint at a position. Beside the number: ended, imprint, and the position afterwards; all 0 beside 3.
 #[no_mangle]
 pub extern "C" fn mgz_step(
     dictionary: &[u32],
@@ -83,7 +83,7 @@ pub extern "C" fn mgz_step(
 
 // ---- range search
 
-// The rows whose value lies in low to high, at the front of the lent rows. Beside the number: needed, rows, skipped, whole, compared.
+// The rows whose value lies in low to high, by the column's own index, at the front of the lent rows. Beside the number: needed, rows, skipped, whole, compared.
 #[no_mangle]
 pub extern "C" fn mgz_search(
     column: &[i32],

@@ -95,7 +95,7 @@ module _ (k : Kind) (bs : List ℤ) (is ds : List ℕ) (lines : ℕ) (ws : List 
             lines-are : length (unpack ds is) ≡ lines
             lines-are = accepted-lines largest (lit≤ tt) (lit< tt) (bins bs) lines ds is index .1
 
--- ---- build: `found` are the column's borders
+-- ---- build
 
 module _ (k : Kind) (col bs : List ℤ) (is ds : List ℕ) where
   pub build-too-long : most-rows < length col → Builds k col bs is ds build.TooLong bs is ds

@@ -1,4 +1,4 @@
--- Document 01: the index of a column, its three parts, and which words are an index for a column of this length. Assumes nothing.
+-- Document 01: the packed imprints of a column, which with its borders are its index, and which words are an index for a column of this length. Assumes nothing.
 use Prim.Native.Nat.{ℕ}
 use mathlib.Core.List.{List}
 use mathlib.Core.Bool.{Bool}
@@ -16,7 +16,7 @@ line-count k col = ceil (length col) (k .per)
 abbrev pub packed-with : Kind → List ℤ → List ℤ → Packed
 packed-with k bs col = pack largest (imprints k bs col)
 
--- the index that build makes: its borders, and its words
+-- the imprints and the dictionary of the index that build makes, by the column's own borders
 abbrev pub built : Kind → List ℤ → Packed
 built k col = packed-with k (borders k col) col
 

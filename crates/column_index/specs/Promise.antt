@@ -1,4 +1,5 @@
 -- Document 01: what build, pack, unpack and range search answer, in the order of their checks, and what every lent word is afterwards. Assumes nothing.
+-- col is the column, bs the borders, is the imprints, ds the dictionary, ws a list of imprints, r the answer; a name with ′ is that space afterwards.
 use mathlib.Core.Path.{_≡_}
 use Prim.Native.Nat.{ℕ}
 use mathlib.Core.List.{List, [], _∷_}
@@ -75,6 +76,7 @@ pack-beside packing.Unfit = 0 ∷ 0 ∷ 0 ∷ []
 pack-beside (packing.ImprintsShort n) = n ∷ 0 ∷ 0 ∷ []
 pack-beside (packing.DictionaryShort n) = n ∷ 0 ∷ 0 ∷ []
 
+-- the answer where the parts have the lengths i, d and the lent spaces si, sd
 abbrev pub pack-lengths : ℕ → ℕ → ℕ → ℕ → PackAnswer
 pack-lengths i d si sd = cond (ltb si i) (packing.ImprintsShort i) (cond (ltb sd d) (packing.DictionaryShort d) (packing.Done i d))
 

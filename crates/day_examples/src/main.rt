@@ -1,4 +1,4 @@
-// A day of minutes with the clock going back: at 03:00 it is 02:00 again, so the minutes from 120 to 165 come twice. The dyehouse stands still from 05:00 to 08:00 and after 09:00.
+// A day of minutes with the clock going back: at 03:00 it is 02:00 again, so the minutes from 120 to 165 come twice. The dyehouse stands still from 05:00 to 08:00 and after 08:35.
 use column_index::BuildAnswer;
 use guarded_search::GuardAnswer;
 use guarded_search::Outcome;
@@ -46,7 +46,7 @@ fn refused(n: usize) {
     number(n);
 }
 
-// What became of a search, and the rows that it lists where they are few.
+// What became of a search, and the rows that it lists where they are two.
 fn shown(answer: GuardAnswer, rows: &[u32]) {
     match answer {
         GuardAnswer::Done {

@@ -61,7 +61,7 @@ module _ (full : ℕ) (two : 2 ≤ full) (small : full < 2 ^ 24) where
   unfolding pack accepted accepted-packing
   pack-unpack n lines ds is e = let p = accepted-packing n lines ds is e in (p .dict-is, p .imps-is)
 
-  -- the lines of accepted words are fit, and as many as the lines
+  -- the lines of accepted words are fit, and as many as the words are accepted for
   pub accepted-lines : (n lines : ℕ) (ds is : List ℕ) → accepted full n lines ds is ≡ true → (every (fit n) (unpack ds is) ≡ true) × (length (unpack ds is) ≡ lines)
   unfolding pack accepted accepted-packing
   accepted-lines n lines ds is e = let p = accepted-packing n lines ds is e in (p .fits, p .one-each)

@@ -64,7 +64,7 @@ parse-words (d ∷ ds) is es e = go (d / 2 ^ 24) (d % 2 ^ 24) (sym (div-add-mod'
         first = omega arith
     go (suc (suc m)) c q is ih e = clash (cc)
 
--- every count is in the entry's word
+-- no count is above the largest, and a repeat entry has two lines or more
 abbrev pub counted : ℕ → List Entry → Type 0
 counted full [] = Unit {0}
 counted full (plain ws ∷ es) = (length ws ≤ full) × counted full es

@@ -1,4 +1,4 @@
--- Document 01, "The packed line dictionary", with the largest count of an entry as a parameter. Assumes nothing.
+-- Document 01, "The packed line dictionary", with the largest count of an entry as a parameter. A list that document 01 takes is shorter than that, so no entry of it is full. Assumes nothing.
 use Prim.Native.Nat.{ℕ, zero, suc, _+_, _-_, _/_, _%_, _^_}
 use mathlib.Core.List.{List, [], _∷_, _++_, map}
 use mathlib.Core.Bool.{Bool, cond, _&&_}
@@ -71,6 +71,7 @@ abbrev pub kept : Entry → List ℕ
 kept (plain ws) = ws
 kept (repeat c w) = w ∷ []
 
+-- the dictionary words, and the imprints kept
 pub record Packed : Type 0 where
   pub dict : List ℕ
   pub imps : List ℕ
@@ -83,6 +84,7 @@ pack full ws = packed (entries full ws)
 
 -- ---- back again
 
+-- an entry's count and its repeat mark, by its word
 abbrev pub count-of : ℕ → ℕ
 count-of d = d % 2 ^ 24
 

@@ -1,4 +1,4 @@
-// Which words are an index: one pass over the dictionary, entry by entry.
+// Which words are an index: all imprints are fit, and then one pass over the dictionary, entry by entry.
 ghost use mathlib.Core.Path.{_≡_};
 ghost use Prim.Native.Nat.{_-_, _<_, _≤_};
 ghost use lib.ListN.{length, getD, take, drop};
@@ -6,7 +6,7 @@ ghost use Rattle.dictionary.specs.Dictionary.{largest, accepted};
 ghost use Rattle.dictionary.specs.loops.Entries.{uses};
 ghost use Rattle.dictionary.specs.loops.Scan.{preceding, opens, goes-on, follows, neighbours, good-plain, good-repeat, good-entry, past-after, after-entry, scan};
 
-// What the entry before was: none; a plain one that is not full; a full repeat one; any other.
+// What the entry before was: none; a plain one that is not full, but for a line left over from a run; a full repeat one; any other.
 pub enum Past {
     Start,
     Short,

@@ -1,4 +1,4 @@
-// The examples P9 to P12 of document 01, run through the built filter part. Each line says the call, its number and what the filter then means.
+// The examples P9 to P12 of document 01, and what is refused, run through the built filter part. A line says the call, its number and what the words then mean; of ask, what it answers.
 use libc::STDOUT_FILENO;
 use range_filter::Arrived;
 use range_filter::Asked;

@@ -1,4 +1,4 @@
-// The range search in the forms that hand back the caller's own row space: all of it beside the figures, or its front part.
+// The range search with its answer as figures; and in the forms that hand back the caller's own row space: all of it beside the figures, or its front part.
 
 use column_index::SearchAnswer;
 ghost use mathlib.Core.Path.{_≡_};
@@ -16,6 +16,7 @@ pub struct Figures {
     pub compared: usize,
 }
 
+// The caller's own row space, and the figures.
 pub struct FoundRows<'a> {
     pub rows: &'a mut [u32],
     pub found: Figures,

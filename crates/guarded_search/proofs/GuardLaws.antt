@@ -71,7 +71,7 @@ module _ (col bs : List ℤ) (is ds : List ℕ) (lo hi space : ℕ) (m : Memory)
       go false false false [] = refl
       go false h t (x ∷ xs) = refl
 
-  -- the range is one of keys, and the filter said look
+  -- the range is one of keys, the filter said look, and nothing was listed
   pub record Looked : Type 0 where
     pub key : hi < 2 ^ m .levels
     pub order : lo ≤ hi
@@ -124,7 +124,7 @@ module _ (col bs : List ℤ) (is ds : List ℕ) (lo hi space : ℕ) (m : Memory)
       go false false q true r = stays refl refl (λ e. absurd (omega arith))
       go false false q false r = checked (leb-false (2 ^ m .levels) hi q) (ltb-false hi lo r) (checked-answer readings col bs is ds)
 
--- and the other way round, for a range of keys
+-- where no key of the column lies in a range of keys, a plain scan lists nothing
 pub none-scan : (k : Kind) (lo hi levels r : ℕ) (col : List ℤ) → hi < 2 ^ levels → some-in lo hi (keys levels col) ≡ false → scan k (pos lo) (pos hi) r col ≡ []
 unfolding matches
 none-scan k lo hi levels r [] l e = refl
@@ -137,7 +137,7 @@ none-scan k lo hi levels r (pos n ∷ vs) l e = go (leb lo n && leb n hi) refl (
     go false p true q e ih = ih (rw p at e)
     go false p false q e ih = ih e
 
--- a plain scan that lists nothing leaves no key in the range
+-- and a plain scan that lists nothing leaves no key in the range
 pub scan-none : (k : Kind) (lo hi levels r : ℕ) (col : List ℤ) → scan k (pos lo) (pos hi) r col ≡ [] → some-in lo hi (keys levels col) ≡ false
 unfolding matches
 scan-none k lo hi levels r [] e = refl

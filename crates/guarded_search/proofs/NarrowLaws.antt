@@ -61,7 +61,7 @@ module _ (k lo hi : ℕ) (order : lo ≤ hi) where
       go true false e false f ih =
           rw (e, f, le-leb lo x (ltb-false x lo e), le-leb x hi (ltb-false hi x f), or-true) (ih (gap-of (g .low) (g .high) true) l)
 
-  -- the gap around lo to hi, and whether a key lies in it
+  -- the gap around lo to hi, and whether a key lies in lo to hi
   pub narrowed-widest : (vs : List ℤ) → narrow-all (2 ^ k) lo hi (widest (2 ^ k)) vs ≡ gap-of (gap-low lo (keys k vs)) (gap-high last hi (keys k vs)) (some-in lo hi (keys k vs))
   narrowed-widest vs = narrowed-all vs (widest (2 ^ k)) (omega arith) ∙ gap-eq (omega arith) (omega (arith, gap-high-le last hi (keys k vs))) refl
 

@@ -71,6 +71,7 @@ is-empty m = run (λ x. not (m .set x)) 0 (2 ^ m .levels)
 abbrev splits-are : Memory → ℕ → Bool
 splits-are m n = eqb (splits (treeIn m)) n
 
+-- where the document names no room it is 7
 abbrev p9 : Bool
 p9 =
     let a = learnt (freshMemory 4 7) 12 15 in

@@ -45,7 +45,7 @@ result o a m = record { outcome = o; answer = a; memory = m }
 abbrev pub missed : Bool → Answer → Memory → Memory → Result
 missed hidden a m m′ = cond (hidden || tooMany m′) (result NotLearnt a m) (result Learnt a m′)
 
--- the filter said look, and the range search answered a
+-- the filter said look, and the range search answered a, which lists these rows
 abbrev pub looked : Bool → List ℕ → Answer → Memory → Memory → Result
 looked hidden [] a m m′ = missed hidden a m m′
 looked hidden (r ∷ rs) a m m′ = result Found a m

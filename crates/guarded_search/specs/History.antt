@@ -20,7 +20,7 @@ Stand (x ∷ samples) col = List·Memᴰ (pos x) col × Stand samples col
 
 -- The filter's words and the samples present. The filter starts fresh over any samples; a range that a caller has it learn has no sample then; each later arrival is
 -- reported once it is there; departures, reported, and forgettings come at will; and so do searches with both, over any column in which the samples present stand, with
--- any index, any range and any row space. What such a search has the filter learn by itself is asked of nobody. Any of these calls may be refused.
+-- any index, any range and any row space. What such a search has the filter learn by itself is asked of nobody. Any call after the fresh one may be refused.
 pub data History : List ℕ → List ℕ → Type 0 where
   begins : {w w′ : List ℕ} {r : Made} (levels room : ℕ) (samples : List ℕ) → Fresh levels room w r w′ → madeNumber r ≡ 0 → History w′ samples
   taught : {w w′ samples : List ℕ} {r : Learnt} (lo hi : ℕ) → History w samples → Learn w lo hi r w′ → (learntNumber r ≡ 0 → NoneIn lo hi samples) → History w′ samples

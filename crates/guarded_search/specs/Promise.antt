@@ -31,13 +31,14 @@ guard-number guard.BadBorders = numbered bad-borders
 guard-number guard.NoIndex = numbered no-index
 guard-number (guard.Short n) = numbered space-too-short
 
+-- which of the four it was
 abbrev pub outcome-number : Outcome → ℕ
 outcome-number Denied = 0
 outcome-number Found = 1
 outcome-number Learnt = 2
 outcome-number NotLearnt = 3
 
--- beside the number: what became of it, the length needed, how many rows, lines skipped, lines whole, values compared
+-- beside the number: which of the four it was, the length needed, how many rows, lines skipped, lines whole, values compared
 abbrev pub guard-beside : GuardAnswer → List ℕ
 guard-beside (guard.Done o n s w c) = outcome-number o ∷ 0 ∷ n ∷ s ∷ w ∷ c ∷ []
 guard-beside guard.NoFilter = 0 ∷ 0 ∷ 0 ∷ 0 ∷ 0 ∷ 0 ∷ []
@@ -69,7 +70,7 @@ guard-answer col bs is ds lo hi space m =
     let s = guarded readings m bs ds is col lo hi in
     ofRange guard.NoKey guard.LowAboveHigh lo hi m (of-index (checked-answer readings col bs is ds) (guard-room (s .outcome) (s .answer) space))
 
--- The search of the keys lo to hi, over the filter words w, the column and its index, into the row space rows. Number 0 makes the words mean what the filter remembers
+-- The search of the keys lo to hi, over the filter words w, the column and an index, into the row space rows. Number 0 makes the words mean what the filter remembers
 -- afterwards, and puts the rows listed at the front of the row space; any other changes nothing.
 pub record Guards (w : List ℕ) (col bs : List ℤ) (is ds : List ℕ) (lo hi : ℕ) (rows : List ℕ) (r : GuardAnswer) (w′ rows′ : List ℕ) : Type 0 where
   pub kept : Kept w guard.NoFilter guard-number (guard-answer col bs is ds lo hi (length rows)) (λ m. guarded readings m bs ds is col lo hi .memory) r w′

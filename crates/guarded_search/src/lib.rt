@@ -160,7 +160,7 @@ fn learn_gap(words: &mut [u32], column: &[i32], low: Key, high: Key) -> Outcome
     outcome_of(range_filter::learn(words, Key(gap.low), Key(gap.high)))
 }
 
-// A range that the filter denies: no rows, all counts 0.
+// A range that the filter denies: 2, 5 and 3 are checked, then no rows, all counts 0.
 fn denied(column: &[i32], borders: &[i32], imprints: &[u64], dictionary: &[u32]) -> GuardAnswer
     ensures { λ r. ⌜ r ≡ of-index (checked-answer readings (now (column .entry)) (now (borders .entry)) (now (imprints .entry)) (now (dictionary .entry))) (Done Denied 0 0 0 0) ⌝ }
 {

@@ -38,7 +38,7 @@ by-halves k P low high x lt = go (decLt x (2 ^ k))
         let z : 2 ^ k + (x - 2 ^ k) ≡ x = omega arith in
         subst P z (high (x - 2 ^ k) (omega (arith, two-pow-succ k)))
 
--- a set whose tree is a leaf is that leaf's leafWord at every key
+-- a set whose tree is a leaf is what the leaf says at every key
 pub leaf-all : (k : ℕ) (D : ℕ → Bool) (b : Bool) → treeOf k D ≡ leaf b → (x : ℕ) → x < 2 ^ k → D x ≡ b
 unfolding treeOf
 leaf-all zero D b e x lt =

@@ -1,4 +1,4 @@
--- The cases of `first_pair`. Assumes nothing.
+-- The cases of `pair_here` and `first_pair`. Assumes nothing.
 use mathlib.Core.Path.{_≡_, refl, sym, ap, ap₂, _∙_}
 use mathlib.Core.Bool.{Bool}
 use mathlib.Core.List.{List}

@@ -19,7 +19,7 @@ pub enum Seen {
     Good(usize),
 }
 
-// Whether a smallest tree of k levels is laid out at p, and its words.
+// Whether a smallest tree of k levels is laid out at p, and how many words it has.
 pub fn valid(w: &[u32], at: Node, k: u32) -> Seen
     ensures { λ r. ⌜ Saw (now (w .entry)) (at .0) k r ⌝ }
 {

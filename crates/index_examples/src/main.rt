@@ -1,4 +1,4 @@
-// Boundary cases of document 01, run through the built index part: lengths of a column, numbers of different values, the ends of the value range, every number that can arise.
+// Boundary cases of document 01, run through the built index part: lengths of a column, numbers of different values, the ends of the value range, every number that can arise but 2 for a column or a list to pack.
 use column_index::BuildAnswer;
 use column_index::PackAnswer;
 use column_index::SearchAnswer;
@@ -268,7 +268,7 @@ fn at(entry: usize, place: usize, number: usize) -> Position {
     }
 }
 
-// Every number of pack: the list of column A, with borders 5, 20.
+// Every number of pack but 2: the list of column A, with borders 5, 20.
 fn packs(borders: &[i32], fallen: &[i32]) {
     let list = [2u64, 2, 4];
     let unfit = [2u64, 8, 4];
@@ -323,7 +323,7 @@ fn refusals(borders: &[i32], fallen: &[i32], imprints: &[u64], dictionary: &[u32
     );
 }
 
-// Every number of pack, unpack, step and search. Column A's index: 5, 20; 16777218, 1; 2, 4.
+// Every number of pack, unpack, step and search, but 2 of pack and search. Column A's index: 5, 20; 16777218, 1; 2, 4.
 fn numbers() {
     text(b"every number\n");
     let borders = [5i32, 20];

@@ -1,4 +1,4 @@
--- Document 01, "A line reader keeps hold of ..": the reader made, and the reader after a step. Assumes nothing.
+-- Document 01, "A line reader keeps hold of ..": the reader made, what its step gives, the reader after it, and lines read into a lent list. Assumes nothing.
 use Prim.Native.Nat.{ℕ, zero, suc}
 use mathlib.Core.List.{List, [], _∷_}
 use mathlib.Core.Path.{_≡_}

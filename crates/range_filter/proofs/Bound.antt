@@ -47,7 +47,7 @@ same? false false = yes refl
 not-both : (b : Bool) → b ≡ false → b ≡ true → ⊥
 not-both b e f = let z : _≡_ {A = ℕ} 0 1 = cc in omega arith
 
--- no key, no change: D is one leafWord throughout
+-- no key, no change: D is the same throughout
 still : (k : ℕ) (D K : ℕ → Bool) → Beside k D K → count k K ≡ 0 → (x : ℕ) → x < 2 ^ k → D x ≡ D 0
 still k D K h e zero lt = refl
 still k D K h e (suc x) lt =

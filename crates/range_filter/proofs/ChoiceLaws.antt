@@ -109,10 +109,11 @@ lone h s k = rw (same-test h s) (go (leb h s))
     go true = let z : s ≡ s + 0 = omega arith in ap (λ (i : ℕ). split i (s + (2 ^ k - 1))) z
     go false = refl
 
--- a split of halves that are not both leaves: its own pairs are its halves'
+-- the pair of lowest start at or after h is the one that the walk finds
 abbrev Lowest : Tree → Type 0
 Lowest t = (k s h : ℕ) → Deep t k → lowestFrom h (pairs t k s) ≡ choice s (firstFrom t k (h - s))
 
+-- a split of halves that are not both leaves: its own pairs are its halves'
 both-halves : (l r : Tree) → Lowest l → Lowest r → (k s h : ℕ) → Deep (node l r) k → lowestFrom h (pairs l (k - 1) s ++ pairs r (k - 1) (s + 2 ^ (k - 1))) ≡ choice s (orElse (firstFrom l (k - 1) (h - s)) (moved (firstFrom r (k - 1) (h - s - 2 ^ (k - 1))) (2 ^ (k - 1))))
 both-halves l r il ir k s h d =
     let m = 2 ^ (k - 1) in

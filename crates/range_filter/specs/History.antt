@@ -29,7 +29,7 @@ oneLess x [] = []
 oneLess x (y ∷ samples) = cond (eqb x y) samples (y ∷ oneLess x samples)
 
 -- The filter's words and the samples present. The filter starts fresh over any samples; a range that it learns has no sample then; each later arrival is reported
--- once it is there; departures, reported, and forgettings come at will; any of these calls may be refused.
+-- once it is there; departures, reported, and forgettings come at will; any call after the fresh one may be refused.
 pub data History : List ℕ → List ℕ → Type 0 where
   begins : {w w′ : List ℕ} {r : Made} (levels room : ℕ) (samples : List ℕ) → Fresh levels room w r w′ → madeNumber r ≡ 0 → History w′ samples
   taught : {w w′ samples : List ℕ} {r : Learnt} (lo hi : ℕ) → History w samples → Learn w lo hi r w′ → (learntNumber r ≡ 0 → NoneIn lo hi samples) → History w′ samples

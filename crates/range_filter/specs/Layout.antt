@@ -26,7 +26,7 @@ layout m = m .levels ∷ m .room ∷ m .hand ∷ encode (treeIn m)
 abbrev pub wordsNeeded : ℕ → ℕ
 wordsNeeded room = 2 * room + 4
 
--- The words w are a filter that remembers m: as many as its room needs, they begin with its layout, a fresh filter would take its levels and room,
+-- The words w are a filter that remembers m: at least as many as its room needs, they begin with its layout, a fresh filter would take its levels and room,
 -- its splits are within the room, and its hand is a key. Words after the layout are ignored.
 pub record Filter (w : List ℕ) (m : Memory) : Type 0 where
   pub long : wordsNeeded (m .room) ≤ length w

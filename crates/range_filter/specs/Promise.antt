@@ -1,4 +1,5 @@
 -- Document 01, "Numbers it comes back with" and "The filter tree": what each call answers, refusals in their order, and every lent word afterwards. Assumes nothing.
+-- w are the words, r is the answer, w′ are the words afterwards; m is what they mean.
 use mathlib.Core.Path.{_≡_}
 use mathlib.Core.Bool.{Bool, cond, _||_}
 use mathlib.Core.List.{List, [], _∷_}
@@ -72,7 +73,7 @@ pub record Fresh (levels room : ℕ) (w : List ℕ) (r : Made) (w′ : List ℕ)
   pub answers : r ≡ freshAnswer levels room (length w)
   pub words : w′ ≡ wordsAfter (madeNumber r) w (freshMemory levels room)
 
--- ask: 8, 7, 1
+-- ask: 8, 7, 1; look and denied both have number 0
 abbrev pub askedNumber : Asked → ℕ
 askedNumber asked.NoFilter = numbered no-filter
 askedNumber asked.NoKey = numbered no-key

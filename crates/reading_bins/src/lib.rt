@@ -74,7 +74,7 @@ fn first_value(borders: &[i32], b: usize) -> i32
     if b == 0 { kind::LEAST } else { borders[b - 1] }
 }
 
-// Bin b's last value is at most high. Above high the next border is no least value, so the one before it exists.
+// Bin b's last value is at most high. A next border above high is not the least value, so that there is a value before it.
 fn ends_by(borders: &[i32], b: usize, high: i32) -> bool
     ensures { λ r. ⌜ r ≡ leZ (last-of readings (now (borders .entry)) b) high ⌝ }
 {

@@ -63,7 +63,7 @@ fn find(
     }
 }
 
-// The rows whose value lies in the closed range low to high, at the front of the lent rows.
+// The rows of whole lines and the matching rows of compared lines, rising, at the front of the lent rows. With the column's own index these are the rows whose value lies in the closed range low to high.
 pub fn search(
     column: &[i32],
     borders: &[i32],

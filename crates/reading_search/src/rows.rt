@@ -1,4 +1,4 @@
-// The rows of a range, counted and then listed, entry by entry. A repeat entry that is skipped or taken whole is one step, however many lines it has.
+// The rows of a range, counted entry by entry. A repeat entry that is skipped or taken whole is one step, however many lines it has.
 use bins::Fate;
 use bins::Line;
 use bins::Row;
@@ -50,7 +50,7 @@ fn count_matches(part: &[i32], ask: Ask) -> u32
     n
 }
 
-// The first row of a line, or the end of the column: the one place where a line's number becomes a row's.
+// The first row of a line, or the end of the column.
 fn row_of(rows: usize, line: Line) -> Row
     requires { ⌜ line .0 ≤ most-lines readings ⌝ }
     ensures { λ r. ⌜ r .0 ≡ row-at readings rows (line .0) ⌝ }

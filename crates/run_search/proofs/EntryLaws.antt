@@ -106,7 +106,7 @@ going-next ds is e i c g h = go (rw cut at (g .readable))
           onward = record { few-entries = omega arith; few-imprints = m; readable = rw (drop-drop (uses (getD ds e 0)) i is) at (r .2); lines-left = omega (arith, l, g .lines-left) };
         }
 
--- at the last entry nothing is left
+-- past the last entry nothing is left
 pub going-ends : (ds is : List ℕ) (e i : ℕ) → length ds ≤ e → unpack (drop e ds) (drop i is) ≡ []
 going-ends ds is e i h = ap (λ (l : List ℕ). unpack l (drop i is)) (drop-of-length-le ds h)
 

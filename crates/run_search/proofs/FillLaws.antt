@@ -90,7 +90,7 @@ module _ (k : Kind) (q : Asked) (col : List ℤ) (w c n : ℕ) where
   pub compared-ids : fate-in q w ≡ Compared → run-at k q col w c n .ids ≡ scan k (q .low) (q .high) (k .per * c) (values k col c n)
   compared-ids e = ap (λ (f : Fate). run-of k (q .low) (q .high) f (k .per * c) n (values k col c n) .ids) e
 
--- the rows of lines that are there are rows of the column
+-- the rows of lines that are there have numbers of 32 bits
 pub rows-end : (k : Kind) → k .per * most-lines k ≤ row-words → (col : List ℤ) (c n : ℕ) → c ≤ most-lines k → length col ≤ row-words → k .per * c + length (values k col c n) ≤ row-words
 rows-end k f col c n h l = omega (arith, mul-le-mul-left (k .per) h, length-take (k .per * n) (drop (k .per * c) col), length-drop (k .per * c) col)
 

@@ -47,7 +47,7 @@ module _ (k : Kind) (q : Asked) (col : List ℤ) where
 
 -- ---- n lines of one imprint
 
--- what begins at the row after a, or is empty, may be said to begin anywhere
+-- the values b begin at the row after the values a; where they are none, they may be said to begin anywhere
 module _ (k : Kind) (low high : ℤ) where
   run-more : (f : Fate) (r r′ n : ℕ) (a b : List ℤ) → ((0 < length b) → r + length a ≡ r′) → with-line k low high f r a (run-of k low high f r′ n b) ≡ run-of k low high f r (suc n) (a ++ b)
   run-more Skipped r r′ n a b e = answer-eq _ _ refl refl refl refl

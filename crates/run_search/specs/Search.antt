@@ -32,7 +32,7 @@ with-line k low high Skipped r vs a = record { ids = a .ids; skips = suc (a .ski
 with-line k low high Whole r vs a = record { ids = from r (length vs) ++ a .ids; skips = a .skips; wholes = suc (a .wholes); compares = a .compares }
 with-line k low high Compared r vs a = record { ids = scan k low high r vs ++ a .ids; skips = a .skips; wholes = a .wholes; compares = length vs + a .compares }
 
--- the lines that begin at row r, each with its fate
+-- the lines that begin at row r, each with its fate; by an index that is not refused there are as many fates as lines
 abbrev pub over : Kind → ℤ → ℤ → ℕ → List (List ℤ) → List Fate → Answer
 over k low high r [] fs = nothing
 over k low high r (l ∷ ls) [] = nothing

@@ -1,4 +1,4 @@
--- Laws of lists in pieces. Assumes nothing.
+-- Laws of lists in pieces, of numbers in a row, and of lent spaces. Assumes nothing.
 use Prim.Native.Nat.{ℕ, zero, suc, _+_, _-_, _*_, _/_, _<_, _≤_}
 use mathlib.Core.Path.{_≡_, refl, sym, _∙_, ap, ap₂}
 use mathlib.Core.List.{List, [], _∷_, _++_, map, append-nil, append-assoc}

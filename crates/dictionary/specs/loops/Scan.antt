@@ -62,6 +62,7 @@ past-after false full opened = cond opened (cond full Other Short) Other
 abbrev pub after-entry : ℕ → List ℕ → Before → Before
 after-entry d is b = preceding (past-after (repeated d) (eqb (count-of d) largest) (opens (b .past) (b .last) (getD is 0 0))) (getD is (uses d - 1) 0)
 
+-- the entries after b are good, one by one, and no imprint and no line is left over
 abbrev pub scan : List ℕ → List ℕ → Before → ℕ → Bool
 scan [] is b left = eqb (length is) 0 && eqb left 0
 scan (d ∷ ds) is b left = good-entry d is b left && scan ds (drop (uses d) is) (after-entry d is b) (left - count-of d)

@@ -1,4 +1,4 @@
--- A tree in short, and where a tree's halves lie.
+-- A tree in short, where a tree's halves lie, a range as the halves see it, and a tree that is written. Assumes nothing.
 use mathlib.Core.Path.{_≡_}
 use mathlib.Core.Bool.{Bool, true, false}
 use mathlib.Core.List.{List}
@@ -46,6 +46,7 @@ pub record Halved (w : List ℕ) (k : ℕ) (D : ℕ → Bool) (lp ln rp rn : ℕ
   pub right : At w rp (treeOf (k - 1) (shift (2 ^ (k - 1)) D))
   pub rwords : rn ≡ size (treeOf (k - 1) (shift (2 ^ (k - 1)) D))
 
+-- the tree of some set, of k levels, at least 1, and of n words, is laid out at p
 pub record Sub (w : List ℕ) (p n k : ℕ) : Type 0 where
   pub set : ℕ → Bool
   pub laid : At w p (treeOf k set)

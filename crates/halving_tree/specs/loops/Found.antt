@@ -1,4 +1,4 @@
--- The split with two leaves that forgetting takes: the one of lowest start at or after a key.
+-- The split with two leaves that forgetting takes: the one of lowest start at or after a key, else the lowest of all. Assumes nothing.
 use mathlib.Core.Bool.{Bool, true, false}
 use Prim.Native.Nat.{ℕ, _+_, _-_, _^_, _<_}
 use lib.Dec.{eqb}
@@ -18,7 +18,7 @@ abbrev pub pickFound : Bool → Found → Found → Found
 pickFound true f g = f
 pickFound false f g = g
 
--- the split of these halves itself, of k levels, where both are leaves and its start, 0, is at or after h
+-- the split of these halves itself, of the keys 0 to last, where both are leaves and its start, 0, is at or after h
 abbrev pub pairHere : Tree → Tree → ℕ → ℕ → Found
 pairHere (leaf a) (leaf b) h last = pickFound (eqb h 0) (Pair 0 last) Nothing
 pairHere (leaf a) (node x y) h last = Nothing
@@ -29,6 +29,7 @@ abbrev pub firstFrom : Tree → ℕ → ℕ → Found
 firstFrom (leaf b) k h = Nothing
 firstFrom (node l r) k h = orElse (pairHere l r h (2 ^ k - 1)) (orElse (firstFrom l (k - 1) h) (moved (firstFrom r (k - 1) (h - 2 ^ (k - 1))) (2 ^ (k - 1))))
 
+-- both keys are below s
 abbrev pub Below : Found → ℕ → Type 0
 Below Nothing s = Unit {0}
 Below (Pair a b) s = (a < s) × (b < s)

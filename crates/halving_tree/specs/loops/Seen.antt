@@ -1,4 +1,4 @@
--- What the check of a layout says.
+-- What the check of a layout says. Assumes nothing.
 use mathlib.Core.Path.{_≡_}
 use mathlib.Core.Bool.{Bool}
 use mathlib.Core.List.{List}
