@@ -33,9 +33,6 @@ module _ (ws : List ℕ) (count k last : ℕ) (fits : count ≤ length ws) where
 -- ---- a plain entry
 
 module _ (ws : List ℕ) (count : ℕ) (b : Before) where
-  pub plain-none : count ≡ 0 → false ≡ good-plain b (take count ws)
-  plain-none e = rw e
-
   module _ (fits : count ≤ length ws) (some : (count ≡ 0 → ⊥)) where
     above : (n : ℕ) → (n ≡ 0 → ⊥) → 0 < n
     above zero z = absurd (z refl)

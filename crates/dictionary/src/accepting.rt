@@ -1,6 +1,6 @@
 // Which words are an index: all imprints are fit, and then one pass over the dictionary, entry by entry.
 ghost use mathlib.Core.Path.{_≡_};
-ghost use Prim.Native.Nat.{_-_, _<_, _≤_};
+ghost use Prim.Native.Nat.{_≤_};
 ghost use lib.ListN.{length, getD, take, drop};
 ghost use Rattle.dictionary.specs.Dictionary.{largest, accepted};
 ghost use Rattle.dictionary.specs.loops.Entries.{uses};

@@ -22,9 +22,6 @@ abbrev Ruled : List ℕ → ℕ → ℕ → Type 0
 Ruled w p k = (s : Seen) × Saw w p k s
 
 module _ (w : List ℕ) (p k : ℕ) (in-words : p < length w) (ne : k ≡ 0 → ⊥) (two : 2 ≤ getD w p 0) where
-  abbrev Apart : ℕ → Type 0
-  Apart l = getD w (p + 1) 0 ≡ getD w (p + 1 + l) 0 → getD w (p + 1) 0 < 2 → ⊥
-
   rule-right : (l : ℕ) (sl : Saw w (p + 1) (k - 1) (Good l)) → l + 2 ≡ getD w p 0 → (s : Seen) → Saw w (p + 1 + l) (k - 1) s → Ruled w p k
   rule-right l sl e Bad s = (Bad, seen.bad-right w p k ne two l sl s)
   rule-right l sl e (Good r) s = go (eqb (getD w (p + 1) 0) (getD w (p + 1 + l) 0)) refl (decLt (getD w (p + 1) 0) 2)

@@ -3,7 +3,7 @@ use halving_tree::Found;
 use halving_tree::Node;
 use halving_tree::Seen;
 ghost use mathlib.Core.Path.{_≡_};
-ghost use Prim.Native.Nat.{ℕ, _+_, _^_, _≤_, _<_};
+ghost use Prim.Native.Nat.{ℕ, _^_, _≤_, _<_};
 ghost use Rattle.range_filter.specs.Layout.{wordsNeeded};
 ghost use Rattle.range_filter.specs.Calls.{keyAfter};
 ghost use Rattle.range_filter.specs.loops.Loaded.{IsLoaded};

@@ -8,7 +8,7 @@ use dictionary::packing::Packer;
 use reading_bins::kind::MOST_LINES;
 use reading_bins::kind::PER;
 ghost use mathlib.Core.Path.{_≡_};
-ghost use Prim.Native.Nat.{_+_, _≤_};
+ghost use Prim.Native.Nat.{_≤_};
 ghost use lib.ListN.{length};
 ghost use lib.Seq.{sets};
 ghost use Rattle.words.specs.Lists.{ceil};

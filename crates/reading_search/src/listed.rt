@@ -1,5 +1,6 @@
 // The rows of a range, listed entry by entry into a space that is long enough. No word past the answer is written.
 use crate::rows::Ask;
+use crate::rows::first_row;
 use crate::rows::lines_of;
 use bins::Fate;
 use bins::Line;
@@ -7,7 +8,7 @@ use bins::Row;
 ghost use mathlib.Core.Path.{_≡_};
 ghost use mathlib.Core.Bool.{cond, true};
 ghost use mathlib.Core.List.{[], _∷_};
-ghost use Prim.Native.Nat.{_+_, _*_, _<_, _≤_};
+ghost use Prim.Native.Nat.{_+_, _<_, _≤_};
 ghost use lib.ListN.{length};
 ghost use lib.Seq.{sets};
 ghost use Rattle.bins.specs.Bins.{readings, most-rows, most-lines};
@@ -43,14 +44,6 @@ fn fill_matches(rows: &mut [u32], at: usize, part: &[i32], first: Row, ask: Ask)
         i += 1;
     }
     n
-}
-
-// The first row of a line.
-fn first_row(line: Line) -> Row
-    requires { ⌜ line .0 ≤ most-lines readings ⌝ }
-    ensures { λ r. ⌜ r .0 ≡ readings .per * (line .0) ⌝ }
-{
-    Row(reading_bins::kind::PER * line.0)
 }
 
 // The rows of n lines of one imprint, from `line` on, written from place `at` on. Gives the next place.

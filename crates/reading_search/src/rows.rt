@@ -5,9 +5,8 @@ use bins::Row;
 use run_search::Tally;
 ghost use mathlib.Core.Path.{_≡_};
 ghost use mathlib.Core.Bool.{cond};
-ghost use Prim.Native.Nat.{_+_, _*_, _<_, _≤_};
+ghost use Prim.Native.Nat.{_+_, _*_, _≤_};
 ghost use lib.ListN.{length};
-ghost use Rattle.words.specs.Lists.{from};
 ghost use Rattle.bins.specs.Bins.{readings, most-rows, most-lines};
 ghost use Rattle.bins.specs.Masks.{matches};
 ghost use Rattle.dictionary.specs.Dictionary.{count-of, unpack};
@@ -50,12 +49,21 @@ fn count_matches(part: &[i32], ask: Ask) -> u32
     n
 }
 
+// The first row of a line. In this crate a line's number becomes a row's here alone.
+pub fn first_row(line: Line) -> Row
+    requires { ⌜ line .0 ≤ most-lines readings ⌝ }
+    ensures { λ r. ⌜ r .0 ≡ readings .per * (line .0) ⌝ }
+{
+    Row(reading_bins::kind::PER * line.0)
+}
+
 // The first row of a line, or the end of the column.
 fn row_of(rows: usize, line: Line) -> Row
     requires { ⌜ line .0 ≤ most-lines readings ⌝ }
     ensures { λ r. ⌜ r .0 ≡ row-at readings rows (line .0) ⌝ }
 {
-    let at = reading_bins::kind::PER * line.0;
+    let first = first_row(line);
+    let at = first.0;
     if at < rows { Row(at) } else { Row(rows) }
 }
 

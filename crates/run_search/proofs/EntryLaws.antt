@@ -72,7 +72,6 @@ module _ (d : ℕ) where
 
 -- what the next entry is
 pub record Next (ds is : List ℕ) (e i c d : ℕ) : Type 0 where
-  pub has-line : 1 ≤ count-of d
   pub has-imprints : i + uses d ≤ length is
   pub in-lines : c + count-of d ≤ length (unpack ds is)
   pub as-many : length (lines-in d (drop i is)) ≡ count-of d
@@ -98,7 +97,6 @@ going-next ds is e i c g h = go (rw cut at (g .readable))
         let l : count-of (getD ds e 0) + length (unpack (drop (e + 1) ds) (drop (i + uses (getD ds e 0)) is)) ≡ length (unpack (drop e ds) (drop i is)) =
         omega (arith, ap length a, length-append (lines-in (getD ds e 0) (drop i is)) (unpack (drop (e + 1) ds) (drop (i + uses (getD ds e 0)) is)), n) in
         record {
-          has-line = r .0;
           has-imprints = m;
           in-lines = omega (arith, l, g .lines-left);
           as-many = n;
