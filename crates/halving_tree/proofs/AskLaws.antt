@@ -1,7 +1,7 @@
 -- The cases of `all_in`, over plain numbers. Assumes nothing.
 use mathlib.Core.Path.{_≡_, refl, sym, ap, subst, _∙_}
 use mathlib.Core.Bool.{Bool, true, false}
-use mathlib.Core.List.{List, []}
+use mathlib.Core.List.{List}
 use Prim.Native.Nat.{ℕ, zero, suc, _+_, _-_, _/_, _^_, _≤_, _<_}
 use native.Mathlib.Nat.{two-pow-succ}
 use native.Mathlib.Numerals.{sub-one}
@@ -76,7 +76,7 @@ all-both D m lo hi pos low high x a b = go (decLt x m)
         let z : m + (x - m) ≡ x = omega arith in
         subst (λ (y : ℕ). D y ≡ true) z (high (x - m) (omega arith) (omega arith))
 
-module _ (w : List ℕ) (p k span lo hi : ℕ) (here : Place w p k span lo hi) where
+module _ {w : List ℕ} {p k span lo hi : ℕ} (here : Place w p k span lo hi) where
   pub in-words : p < length w
   in-words = at-in w p (treeOf k (here .set)) (here .laid)
 
@@ -90,12 +90,13 @@ module _ (w : List ℕ) (p k span lo hi : ℕ) (here : Place w p k span lo hi) w
   pub says-in : getD w p 0 ≡ 1 → (D : ℕ → Bool) → At w p (treeOf k D) → Says true (AllIn D lo hi)
   says-in e D h x ge le = leaf-all k D true (at-leaf w p (treeOf k D) true h e) x (omega (arith, here .whole, here .inside))
 
-  module _ (n0 : getD w p 0 ≡ 0 → ⊥) (n1 : getD w p 0 ≡ 1 → ⊥) where
+  -- the tree is a split
+  module _ (two : 2 ≤ getD w p 0) where
     pub deep : k ≡ 0 → ⊥
-    deep e = bad-flat w p k e (omega arith) (here .set) (here .laid)
+    deep e = bad-flat w p k e two (here .set) (here .laid)
 
     pub halves : (D : ℕ → Bool) → At w p (treeOf k D) → Parts w p (treeOf (k - 1) D) (treeOf (k - 1) (shift (2 ^ (k - 1)) D))
-    halves D h = at-down w p k deep D (omega arith) h
+    halves D h = at-down w p k deep D two h
 
     -- the right half's place, as the code has it
     pub right-at : (D : ℕ → Bool) → At w p (treeOf k D) → At w (p + getD w p 0 - 1) (treeOf (k - 1) (shift (2 ^ (k - 1)) D))
@@ -104,17 +105,9 @@ module _ (w : List ℕ) (p k span lo hi : ℕ) (here : Place w p k span lo hi) w
         let e : p + 1 + size (treeOf (k - 1) D) ≡ p + getD w p 0 - 1 = omega (arith, q .word) in
         subst (λ (i : ℕ). At w i (treeOf (k - 1) (shift (2 ^ (k - 1)) D))) e (q .right)
 
-    pub go-left : (h : ℕ) → h < span / 2 → lo ≤ h → Place w (p + 1) (k - 1) (span / 2) lo h
-    go-left h lt le = record { set = here .set; laid = halves (here .set) (here .laid) .left; whole = half-is k span deep (here .whole) .0; order = le; inside = lt }
-
-    pub go-right : (l : ℕ) → span / 2 ≤ hi → l ≤ hi - span / 2 → Place w (p + getD w p 0 - 1) (k - 1) (span / 2) l (hi - span / 2)
-    go-right l ge le = record {
-      set = shift (2 ^ (k - 1)) (here .set);
-      laid = right-at (here .set) (here .laid);
-      whole = half-is k span deep (here .whole) .0;
-      order = le;
-      inside = omega (arith, half-is k span deep (here .whole) .1, half-is k span deep (here .whole) .0, here .inside);
-    }
+    -- the right half lies within the words
+    pub right-in : p + getD w p 0 - 1 < length w
+    right-in = at-in w (p + getD w p 0 - 1) (treeOf (k - 1) (shift (2 ^ (k - 1)) (here .set))) (right-at (here .set) (here .laid))
 
     -- the half as the code has it, and as the tree has it
     pub half : span / 2 ≡ 2 ^ (k - 1)
@@ -122,6 +115,15 @@ module _ (w : List ℕ) (p k span lo hi : ℕ) (here : Place w p k span lo hi) w
 
     pub half-pos : 0 < span / 2
     half-pos = omega (arith, half, pow-pos (k - 1))
+
+    pub high-in : hi - span / 2 < span / 2
+    high-in = omega (arith, half-is k span deep (here .whole) .1, half, half-pos, here .inside)
+
+    pub go-left : {l h : ℕ} → l ≤ h → h < span / 2 → Place w (p + 1) (k - 1) (span / 2) l h
+    go-left le lt = record { set = here .set; laid = halves (here .set) (here .laid) .left; whole = half; order = le; inside = lt }
+
+    pub go-right : {l h : ℕ} → l ≤ h → h < span / 2 → Place w (p + getD w p 0 - 1) (k - 1) (span / 2) l h
+    go-right le lt = record { set = shift (2 ^ (k - 1)) (here .set); laid = right-at (here .set) (here .laid); whole = half; order = le; inside = lt }
 
     pub says-high : (r : Bool) (D : ℕ → Bool) → span / 2 ≤ lo → Says r (AllIn (shift (2 ^ (k - 1)) D) (lo - span / 2) (hi - span / 2)) → Says r (AllIn D lo hi)
     says-high r D ge s =
@@ -135,13 +137,3 @@ module _ (w : List ℕ) (p k span lo hi : ℕ) (here : Place w p k span lo hi) w
 
     pub says-not : (D : ℕ → Bool) → span / 2 ≤ hi → (AllIn D lo (span / 2 - 1) → ⊥) → AllIn D lo hi → ⊥
     says-not D ge bad all = bad (λ x a b. all x a (omega (arith, half-pos)))
-
-    -- the right half lies within the words
-    pub right-in : p + getD w p 0 - 1 < length w
-    right-in = at-in w (p + getD w p 0 - 1) (treeOf (k - 1) (shift (2 ^ (k - 1)) (here .set))) (right-at (here .set) (here .laid))
-
-    pub go-left-one : lo < span / 2 → Place w (p + 1) (k - 1) (span / 2) lo lo
-    go-left-one lt = record { set = here .set; laid = halves (here .set) (here .laid) .left; whole = half-is k span deep (here .whole) .0; order = omega arith; inside = lt }
-
-    pub go-right-one : Place w (p + getD w p 0 - 1) (k - 1) (span / 2) 0 0
-    go-right-one = record { set = shift (2 ^ (k - 1)) (here .set); laid = right-at (here .set) (here .laid); whole = half-is k span deep (here .whole) .0; order = omega arith; inside = half-pos }

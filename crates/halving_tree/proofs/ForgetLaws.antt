@@ -4,7 +4,7 @@ use mathlib.Core.Bool.{Bool}
 use mathlib.Core.List.{List}
 use Prim.Native.Nat.{ℕ, zero, suc, _+_, _-_, _/_, _^_, _≤_, _<_}
 use native.Mathlib.Omega.{arith}
-use lib.ListN.{getD}
+use lib.ListN.{length, getD}
 use borrow.Author.Tests.{ne-eqb, eq-eqb}
 use Rattle.halving_tree.specs.Tree.{Tree, leaf, node, shift, treeOf}
 use Rattle.halving_tree.specs.Encode.{leafWord}
@@ -12,8 +12,9 @@ use Rattle.halving_tree.specs.loops.Place.{At, Place}
 use Rattle.halving_tree.specs.loops.Found.{orElse, moved, pairHere, firstFrom, Below}
 use Rattle.halving_tree.specs.declared.Found.{Found}
 use Rattle.halving_tree.specs.declared.Found.the-variants.{Nothing, Pair}
-use Rattle.halving_tree.proofs.Laws.{bit-lt, treeOf-down}
-use Rattle.halving_tree.proofs.AskLaws.{at-leaf, half-is, deep, halves}
+use Rattle.halving_tree.proofs.Laws.{at-in, bit-lt, treeOf-down}
+use Rattle.halving_tree.proofs.AskLaws.{at-leaf}
+use Rattle.halving_tree.proofs.AskLaws as ask
 
 pub or-below : (f g : Found) (s : ℕ) → Below f s → Below g s → Below (orElse f g) s
 or-below Nothing g s a b = b
@@ -65,23 +66,37 @@ module _ (w : List ℕ) (p q from last : ℕ) (l r : Tree) (hl : At w p l) (hr :
       go (leaf c) (node u v) h g = absurd (omega arith)
       go (node x u) y h g = absurd (omega arith)
 
-module _ (w : List ℕ) (p k span : ℕ) (here : Place w p k span 0 0) where
+module _ {w : List ℕ} {p k span : ℕ} (here : Place w p k span 0 0) where
   pub first-leaf : (b : Bool) (from : ℕ) → getD w p 0 ≡ leafWord b → (D : ℕ → Bool) → At w p (treeOf k D) → Nothing ≡ firstFrom (treeOf k D) k from
   first-leaf b from e D h = ap (λ (t : Tree). firstFrom t k from) (sym (at-leaf w p (treeOf k D) b h e))
 
-  module _ (n0 : getD w p 0 ≡ 0 → ⊥) (n1 : getD w p 0 ≡ 1 → ⊥) where
-    ne : k ≡ 0 → ⊥
-    ne = deep w p k span 0 0 here n0 n1
+  module _ (two : 2 ≤ getD w p 0) where
+    pub halves-in : (p + 1 < length w) × (p + getD w p 0 - 1 < length w)
+    halves-in = (at-in w (p + 1) (treeOf (k - 1) (here .set)) (ask.halves here two (here .set) (here .laid) .left), ask.right-in here two)
 
-    pub half : span / 2 ≡ 2 ^ (k - 1)
-    half = half-is k span ne (here .whole) .0
+    -- what the calls said of the split itself, of its left half and of its right half
+    module _ {from i : ℕ} {a b c d e r : Found} (is-a : (t u : Tree) → At w (p + 1) t → At w (p + getD w p 0 - 1) u → a ≡ pairHere t u from (span - 1)) (is-b : (D : ℕ → Bool) → At w (p + 1) (treeOf (k - 1) D) → b ≡ firstFrom (treeOf (k - 1) D) (k - 1) from) (is-i : i ≡ from - span / 2) (is-c : (D : ℕ → Bool) → At w (p + getD w p 0 - 1) (treeOf (k - 1) D) → c ≡ firstFrom (treeOf (k - 1) D) (k - 1) i) (is-d : d ≡ moved c (span / 2)) (is-e : e ≡ orElse b d) (is-r : r ≡ orElse a e) where
+      pub first-split : (D : ℕ → Bool) → At w p (treeOf k D) → r ≡ firstFrom (treeOf k D) k from
+      first-split D h =
+          let L = treeOf (k - 1) D in
+          let R = treeOf (k - 1) (shift (2 ^ (k - 1)) D) in
+          let l = ask.halves here two D h in
+          let g = ask.right-at here two D h in
+          let half = ask.half here two in
+          let t : treeOf k D ≡ node L R = treeOf-down k (ask.deep here two) D ∙ l .split in
+          let ea : a ≡ pairHere L R from (2 ^ k - 1) = is-a L R (l .left) g ∙ ap (λ (j : ℕ). pairHere L R from (j - 1)) (here .whole) in
+          let ec : c ≡ firstFrom R (k - 1) (from - 2 ^ (k - 1)) = is-c (shift (2 ^ (k - 1)) D) g ∙ ap (firstFrom R (k - 1)) (is-i ∙ ap (λ (j : ℕ). from - j) half) in
+          is-r
+          ∙ ap₂ orElse ea (is-e ∙ ap₂ orElse (is-b D (l .left)) (is-d ∙ ap₂ moved ec half))
+          ∙ ap (λ (u : Tree). firstFrom u k from) (sym t)
 
-    pub first-split : (D : ℕ → Bool) → At w p (treeOf k D) → (from : ℕ) (a b c d e : Found) → a ≡ pairHere (treeOf (k - 1) D) (treeOf (k - 1) (shift (2 ^ (k - 1)) D)) from (span - 1) → b ≡ firstFrom (treeOf (k - 1) D) (k - 1) from → c ≡ firstFrom (treeOf (k - 1) (shift (2 ^ (k - 1)) D)) (k - 1) (from - span / 2) → d ≡ moved c (span / 2) → e ≡ orElse a (orElse b d) → e ≡ firstFrom (treeOf k D) k from
-    first-split D h from a b c d e ea eb ec ed ee =
-        let L = treeOf (k - 1) D in
-        let R = treeOf (k - 1) (shift (2 ^ (k - 1)) D) in
-        let t : treeOf k D ≡ node L R = treeOf-down k ne D ∙ halves w p k span 0 0 here n0 n1 D h .split in
-        let s = here .whole in
-        let ea′ : a ≡ pairHere L R from (2 ^ k - 1) = ea ∙ ap (λ (i : ℕ). pairHere L R from (i - 1)) s in
-        let ed′ : d ≡ moved (firstFrom R (k - 1) (from - 2 ^ (k - 1))) (2 ^ (k - 1)) = ed ∙ ap₂ moved (ec ∙ ap (λ (i : ℕ). firstFrom R (k - 1) (from - i)) half) half in
-        ee ∙ ap₂ orElse ea′ (ap₂ orElse eb ed′) ∙ ap (λ (u : Tree). firstFrom u k from) (sym t)
+      pub first-below : Below b (span / 2) → Below c (span / 2) → Below r span
+      first-below fb fc =
+          let S = here .set in
+          let L = treeOf (k - 1) S in
+          let R = treeOf (k - 1) (shift (2 ^ (k - 1)) S) in
+          let ea = is-a L R (ask.halves here two S (here .laid) .left) (ask.right-at here two S (here .laid)) in
+          let ba : Below a span = rw ea (here-below L R from (span - 1) span (omega (arith, here .inside))) in
+          let bd : Below d span = rw is-d (moved-below c (span / 2) span (omega arith) fc) in
+          let be : Below e span = rw is-e (or-below b d span (wider b (span / 2) span (omega arith) fb) bd) in
+          rw is-r (or-below a e span ba be)

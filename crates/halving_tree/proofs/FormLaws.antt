@@ -1,7 +1,7 @@
 -- The short form of a tree, and where its halves lie. Assumes nothing.
 use mathlib.Core.Path.{_≡_, refl, sym, ap, subst, _∙_}
 use mathlib.Core.Bool.{Bool, true, false}
-use mathlib.Core.List.{List, []}
+use mathlib.Core.List.{List}
 use Prim.Native.Nat.{ℕ, zero, suc, _+_, _-_, _/_, _^_, _≤_, _<_}
 use native.Mathlib.Nat.{two-pow-succ}
 use native.Mathlib.Omega.{arith}
@@ -47,13 +47,16 @@ form-join (node x y) (leaf true) = ap Mixed (omega arith)
 form-join (node x y) (leaf false) = ap Mixed (omega arith)
 form-join (node x y) (node u v) = ap Mixed (omega arith)
 
-module _ (w : List ℕ) (p : ℕ) where
-  pub form-leaf : (b : Bool) → getD w p 0 ≡ leafWord b → (t : Tree) → At w p t → formOf (leaf b) ≡ formOf t
-  form-leaf b e t h = ap formOf (sym (at-leaf w p t b h e))
+pub form-leaf : (w : List ℕ) (p : ℕ) (b : Bool) → getD w p 0 ≡ leafWord b → (t : Tree) → At w p t → formOf (leaf b) ≡ formOf t
+form-leaf w p b e t h = ap formOf (sym (at-leaf w p t b h e))
 
-  pub form-node : (n : ℕ) → Laid w p n → (getD w p 0 ≡ 0 → ⊥) → (getD w p 0 ≡ 1 → ⊥) → (t : Tree) → At w p t → Mixed (n / 2) ≡ formOf t
-  form-node n here n0 n1 (leaf b) h = absurd (omega (arith, bit-lt b))
-  form-node n here n0 n1 (node l r) h =
+module _ {w : List ℕ} {p n : ℕ} (here : Laid w p n) where
+  pub laid-in : p < length w
+  laid-in = at-in w p (here .tree) (here .laid)
+
+  pub form-node : (getD w p 0 ≡ 0 → ⊥) → (getD w p 0 ≡ 1 → ⊥) → (t : Tree) → At w p t → Mixed (n / 2) ≡ formOf t
+  form-node n0 n1 (leaf b) h = absurd (omega (arith, bit-lt b))
+  form-node n0 n1 (node l r) h =
       let e : size (here .tree) ≡ size (node l r) = ap size (at-unique w p (here .tree) (node l r) (here .laid) h) in
       ap Mixed (omega (arith, here .words, size-splits l, size-splits r))
 
@@ -62,7 +65,7 @@ small-leafWord zero lt = (false, refl)
 small-leafWord (suc zero) lt = (true, refl)
 small-leafWord (suc (suc n)) lt = absurd (omega arith)
 
-module _ (w : List ℕ) (p n k : ℕ) (here : Sub w p n k) where
+module _ {w : List ℕ} {p n k : ℕ} (here : Sub w p n k) where
   pub halved-leaf : getD w p 0 < 2 → (D : ℕ → Bool) → At w p (treeOf k D) → Halved w k D p 1 p 1
   halved-leaf lt D h =
       let b = small-leafWord (getD w p 0) lt .0 in
@@ -86,7 +89,10 @@ module _ (w : List ℕ) (p n k : ℕ) (here : Sub w p n k) where
         rwords = omega (arith, q .word, whole-size D h);
       }
 
-  -- the halves lie within the words
+  -- the tree lies within the words, and where it is a split so do its halves
+  pub sub-in : p < length w
+  sub-in = at-in w p (treeOf k (here .set)) (here .laid)
+
   pub node-room : 2 ≤ getD w p 0 → (p + n ≤ length w) × (getD w p 0 ≤ n)
   node-room two =
       let q = at-down w p k (here .deep) (here .set) two (here .laid) in

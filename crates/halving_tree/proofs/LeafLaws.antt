@@ -15,7 +15,8 @@ use Rattle.halving_tree.specs.Encode.{leafWord}
 use Rattle.halving_tree.specs.loops.Place.{At, Place, Holds}
 use Rattle.halving_tree.specs.loops.Form.{Parted}
 use Rattle.halving_tree.proofs.Laws.{treeOf-down}
-use Rattle.halving_tree.proofs.AskLaws.{at-leaf, half-is, deep, halves}
+use Rattle.halving_tree.proofs.AskLaws.{at-leaf, half-is}
+use Rattle.halving_tree.proofs.AskLaws as ask
 use Rattle.halving_tree.proofs.FormLaws.{join-splits}
 use Rattle.halving_tree.proofs.PaintLaws.{paint-whole, paint-parts, paint-none}
 
@@ -123,29 +124,26 @@ taken = down-ind Takes base step
         ⊎-elim (λ e. split-taken k ne ih D x lo hi (d ∙ e) h) (λ e. flat-taken k D x lo hi (e .0) (d ∙ e .1) h) (join-cases L T)
 
 -- `leaf_of`, over plain numbers
-module _ (w : List ℕ) (p k span x : ℕ) (here : Place w p k span x x) where
+module _ {w : List ℕ} {p k span x : ℕ} (here : Place w p k span x x) where
   pub whole-holds : (b : Bool) → getD w p 0 ≡ leafWord b → (D : ℕ → Bool) → At w p (treeOf k D) → Holds (treeOf k D) k x 0 (span - 1)
   whole-holds b e D h =
       let t = at-leaf w p (treeOf k D) b h e in
       subst (λ (u : Tree). Holds u k x 0 (span - 1)) (sym t) (record { low = refl; high = ap (λ (i : ℕ). i - 1) (here .whole) })
 
-  module _ (n0 : getD w p 0 ≡ 0 → ⊥) (n1 : getD w p 0 ≡ 1 → ⊥) where
-    ne : k ≡ 0 → ⊥
-    ne = deep w p k span x x here n0 n1
-
+  module _ (two : 2 ≤ getD w p 0) where
     is-split : (D : ℕ → Bool) → At w p (treeOf k D) → treeOf k D ≡ node (treeOf (k - 1) D) (treeOf (k - 1) (shift (2 ^ (k - 1)) D))
-    is-split D h = treeOf-down k ne D ∙ halves w p k span x x here n0 n1 D h .split
+    is-split D h = treeOf-down k (ask.deep here two) D ∙ ask.halves here two D h .split
 
-    half : span / 2 ≡ 2 ^ (k - 1)
-    half = half-is k span ne (here .whole) .0
-
-    pub left-holds : x < span / 2 → (D : ℕ → Bool) → At w p (treeOf k D) → (lo hi : ℕ) → Holds (treeOf (k - 1) D) (k - 1) x lo hi → Holds (treeOf k D) k x lo hi
-    left-holds lt D h lo hi q =
-        let e = lt-ltb x (2 ^ (k - 1)) (omega (arith, half)) in
+    pub left-holds : x < span / 2 → {lo hi : ℕ} → ((D : ℕ → Bool) → At w (p + 1) (treeOf (k - 1) D) → Holds (treeOf (k - 1) D) (k - 1) x lo hi) → (D : ℕ → Bool) → At w p (treeOf k D) → Holds (treeOf k D) k x lo hi
+    left-holds lt {lo} {hi} f D h =
+        let q = f D (ask.halves here two D h .left) in
+        let e = lt-ltb x (2 ^ (k - 1)) (omega (arith, ask.half here two)) in
         subst (λ (u : Tree). Holds u k x lo hi) (sym (is-split D h)) (record { low = rw e (q .low); high = rw e (q .high) })
 
-    pub right-holds : span / 2 ≤ x → (D : ℕ → Bool) → At w p (treeOf k D) → (lo hi : ℕ) → Holds (treeOf (k - 1) (shift (2 ^ (k - 1)) D)) (k - 1) (x - span / 2) lo hi → Holds (treeOf k D) k x (lo + span / 2) (hi + span / 2)
-    right-holds ge D h lo hi q =
-        let e = le-ltb x (2 ^ (k - 1)) (omega (arith, half)) in
+    pub right-holds : span / 2 ≤ x → {lo hi : ℕ} → ((D : ℕ → Bool) → At w (p + getD w p 0 - 1) (treeOf (k - 1) D) → Holds (treeOf (k - 1) D) (k - 1) (x - span / 2) lo hi) → (D : ℕ → Bool) → At w p (treeOf k D) → Holds (treeOf k D) k x (lo + span / 2) (hi + span / 2)
+    right-holds ge {lo} {hi} f D h =
+        let half = ask.half here two in
+        let q = f (shift (2 ^ (k - 1)) D) (ask.right-at here two D h) in
+        let e = le-ltb x (2 ^ (k - 1)) (omega arith) in
         let q′ = subst (λ (i : ℕ). Holds (treeOf (k - 1) (shift (2 ^ (k - 1)) D)) (k - 1) (x - i) lo hi) half q in
         subst (λ (u : Tree). Holds u k x (lo + span / 2) (hi + span / 2)) (sym (is-split D h)) (record { low = rw (e, half) (ap (λ (i : ℕ). i + 2 ^ (k - 1)) (q′ .low)); high = rw (e, half) (ap (λ (i : ℕ). i + 2 ^ (k - 1)) (q′ .high)) })

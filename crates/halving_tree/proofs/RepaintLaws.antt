@@ -40,7 +40,7 @@ written-at o q t room =
     let e : sets o q (encode t) ≡ take q o ++ (encode t ++ drop (q + length (encode t)) o) = sets-eq (encode t) o q r ∙ append-assoc (take q o) (encode t) (drop (q + length (encode t)) o) in
     at-cast t (sym e) (length-take-le q o (omega arith)) (at-between (take q o) (drop (q + length (encode t)) o) t)
 
-module _ (w : List ℕ) (n k span lo hi : ℕ) (b : Bool) (r : Ready w n k span lo hi b) where
+module _ {w : List ℕ} {n k span lo hi : ℕ} {b : Bool} (r : Ready w n k span lo hi b) where
   abbrev S : ℕ → Bool
   S = r .fill .spot .set
 
@@ -48,14 +48,14 @@ module _ (w : List ℕ) (n k span lo hi : ℕ) (b : Bool) (r : Ready w n k span 
   copy-room = (omega (arith, r .fill .spot .words, at-room w 3 (treeOf k S) (r .fill .spot .laid)), omega (arith, r .few))
 
   -- the copied words lay the same tree out at 0
-  pub copied : (z o : List ℕ) → length z ≡ 8191 → o ≡ sets z 0 (take n (drop 3 w)) → (D : ℕ → Bool) → At w 3 (treeOf k D) → At o 0 (treeOf k D)
-  copied z o l e D h =
+  pub copied : (z : List ℕ) {o : List ℕ} → length z ≡ 8191 → o ≡ sets z 0 (take n (drop 3 w)) → (D : ℕ → Bool) → At w 3 (treeOf k D) → At o 0 (treeOf k D)
+  copied z l e D h =
       let words : n ≡ size (treeOf k D) = r .fill .spot .words ∙ ap size (at-unique w 3 (treeOf k S) (treeOf k D) (r .fill .spot .laid) h) in
       let y : take n (drop 3 w) ≡ encode (treeOf k D) = ap (λ (i : ℕ). take i (drop 3 w)) words ∙ at-encode w 3 (treeOf k D) h in
       at-cast (treeOf k D) (sym (e ∙ ap (sets z 0) y)) refl (written-at z 0 (treeOf k D) (omega (arith, r .few)))
 
-  pub put-fill : (o : List ℕ) → At o 0 (treeOf k S) → Fill o 0 n k span lo hi b (length w) 3
-  put-fill o h = record {
-    spot = record { set = S; laid = h; words = r .fill .spot .words; whole = r .fill .spot .whole; inside = r .fill .spot .inside; levels = r .fill .spot .levels };
+  pub put-fill : {o : List ℕ} → ((D : ℕ → Bool) → At w 3 (treeOf k D) → At o 0 (treeOf k D)) → Fill o 0 n k span lo hi b (length w) 3
+  put-fill h = record {
+    spot = record { set = S; laid = h S (r .fill .spot .laid); words = r .fill .spot .words; whole = r .fill .spot .whole; inside = r .fill .spot .inside; levels = r .fill .spot .levels };
     room = r .fill .room;
   }

@@ -1,7 +1,7 @@
 -- The cases of `valid`, over plain numbers: what its two calls said of the halves, said of the whole. Assumes nothing.
 use mathlib.Core.Path.{_≡_, refl, sym, ap, subst, _∙_}
 use mathlib.Core.Bool.{Bool, true, false}
-use mathlib.Core.List.{List, []}
+use mathlib.Core.List.{List}
 use Prim.Native.Nat.{ℕ, zero, suc, _+_, _-_, _^_, _≤_, _<_}
 use native.Mathlib.Omega.{arith}
 use lib.ListN.{length, getD}
@@ -15,11 +15,8 @@ use Rattle.halving_tree.proofs.Laws.{size-pos, at-in, at-room, at-uniqu
 
 module _ (w : List ℕ) (p k : ℕ) where
   -- where a tree was seen, its words are within the slice
-  pub seen-room : (l : ℕ) → Saw w p k (Good l) → p + l ≤ length w
-  seen-room l s = omega (arith, at-room w p (treeOf k (s .0)) (s .1))
-
-  pub seen-pos : (l : ℕ) → Saw w p k (Good l) → 0 < l
-  seen-pos l s = omega (arith, size-pos (treeOf k (s .0)))
+  pub seen-room : (l : ℕ) → Saw w p k (Good l) → (p + l ≤ length w) × (0 < l)
+  seen-room l s = (omega (arith, at-room w p (treeOf k (s .0)) (s .1)), omega (arith, size-pos (treeOf k (s .0))))
 
   pub bad-end : length w ≤ p → Saw w p k Bad
   bad-end le D h = omega (arith, at-in w p (treeOf k D) h)

@@ -8,7 +8,7 @@ ghost use Rattle.halving_tree.specs.loops.Seen.{Saw};
 ghost use Rattle.halving_tree.specs.loops.Form.{formOf, splitsOf, joinForm, Laid, Halved, Sub, Spot, kindOf, Fill, Wrote, Parted};
 ghost use Rattle.halving_tree.specs.loops.Found.{orElse, moved, pairHere, firstFrom, Below, walk};
 ghost use Rattle.halving_tree.specs.loops.Repaint.{Ready, Painted};
-ghost use lib.ListN.{length, take, drop};
+ghost use lib.ListN.{length, take, drop, set};
 ghost use lib.Seq.{sets};
 
 // The place of a tree's first word.
@@ -242,6 +242,26 @@ fn copy(w: &[u32], p: usize, n: usize, out: &mut [u32], q: usize)
     }
 }
 
+// Writes a leaf's word. Returns the place after it.
+fn put_leaf(out: &mut [u32], to: Node, v: u32) -> Node
+    requires { ⌜ to .0 < length (now out) ⌝ }
+    ensures { λ r. ⌜ (now (out .exit) ≡ set (now (out .entry)) (to .0) v) × (r .0 ≡ to .0 + 1) ⌝ }
+{
+    let q = to.0;
+    out[q] = v;
+    Node(q + 1)
+}
+
+// Writes the word of a split whose right half is at next.
+fn put_split(out: &mut [u32], to: Node, next: Node)
+    requires { ⌜ (to .0 < length (now out)) × (to .0 < next .0) × (next .0 < to .0 + 4000000000) ⌝ }
+    ensures { λ _. ⌜ now (out .exit) ≡ set (now (out .entry)) (to .0) (next .0 - to .0 + 1) ⌝ }
+{
+    let q = to.0;
+    let e = next.0;
+    out[q] = (e - q + 1) as u32;
+}
+
 // Writes the tree at p of w, after its keys lo to hi were put in (b) or taken out, into out from q on. Returns the place after it.
 fn put(
     w: &[u32],
@@ -258,34 +278,22 @@ fn put(
     requires { ⌜ Fill (now w) (at .0) n k span lo hi b (length (now out)) (to .0) ⌝ }
     ensures { λ r. ⌜ ((D : ℕ → Bool) → At (now (w .entry)) (at .0) (treeOf k D) → Wrote (now (out .entry)) (now (out .exit)) (to .0) (r .0) (treeOf k (paint b lo hi D))) ⌝ }
 {
-    let p = at.0;
     let q = to.0;
     if hi < lo {
+        let p = at.0;
         copy(w, p, n, out, q);
         return Node(q + n);
     }
     let v = kind(after(w, at, n, k, span, lo, hi, b));
     if v < 2 {
-        out[q] = v;
-        return Node(q + 1);
+        return put_leaf(out, to, v);
     }
     let half = span / 2;
     let c = halves(w, at, n, k);
     let g = parted(half, lo, hi);
-    let next = put(
-        w,
-        c.lp,
-        c.ln,
-        k - 1,
-        half,
-        g.llo,
-        g.lhi,
-        b,
-        out,
-        Node(q + 1),
-    );
-    let e = next.0;
-    out[q] = (e - q + 1) as u32;
+    let first = Node(q + 1);
+    let next = put(w, c.lp, c.ln, k - 1, half, g.llo, g.lhi, b, out, first);
+    put_split(out, to, next);
     put(w, c.rp, c.rn, k - 1, half, g.rlo, g.rhi, b, out, next)
 }
 

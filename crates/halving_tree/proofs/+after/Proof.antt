@@ -1,12 +1,12 @@
-use Rattle.halving_tree.specs.Tree.{treeOf, shift, paint}
-use Rattle.halving_tree.specs.loops.Form.{splitsOf, joinForm, formOf}
+-- `after` meets its contract. Assumes nothing.
+use Rattle.halving_tree.specs.Tree.{treeOf}
+use Rattle.halving_tree.specs.loops.Form.{formOf}
 use Rattle.halving_tree.proofs.PaintLaws.{paint-none}
 use Rattle.halving_tree.proofs.AfterLaws as laws
-use mathlib.Core.Path.{ap, ap₂, sym, _∙_}
-use denote.Ref.{now}
+use mathlib.Core.Path.{_≡_, ap, sym, _∙_}
 use native.Mathlib.Omega.{arith}
 use borrow.Author.Needs.{needs}
-use Prim.Native.Nat.{ℕ, _-_, _^_, _<_}
+use Prim.Native.Nat.{ℕ, _<_}
 use borrow.Fn.Kinds.{In}
 use borrow.Fn.PlainCycle.{Measures, is, falls, and}
 use Rattle.halving_tree.proofs.after.Reads as after
@@ -33,148 +33,86 @@ after-below t = and 1 after-kinds.ps (falls 1 after-kinds.ps _<_ μ-after t) aft
 abbrev calls : ℕ → after-lts.Claims
 calls t = (form-at-reads.Asked, form-at-reads.Learnt, flat-reads.Asked, flat-reads.Learnt, halves-reads.Asked, halves-reads.Learnt, parted-reads.Asked, parted-reads.Learnt, after-below t, after.Post, joined-reads.Asked, joined-reads.Learnt)
 
-after-form-at-requires : (t : ℕ) → after-lts.Need-form-at-requires (calls t) (after-at t) after.Post
-after-form-at-requires t c κs =
-    let s = c .before .before in
-    let a = s .args in
-    let w = now (a .w) in
-    let here = s .pre .1 in
-    laws.as-laid w (a .at .0) (a .n) (a .k) (a .span) (a .lo) (a .hi) here
+module _ (t : ℕ) where
+  form-at-requires : after-lts.Need-form-at-requires (calls t) (after-at t) after.Post
+  form-at-requires c κs = laws.as-laid (c .before .before .pre .1)
 
-after-returns : (t : ℕ) → after-lts.Need-returns (calls t) (after-at t) after.Post
-after-returns t c =
-    let s = c .before .before .before in
-    let a = s .args in
-    λ D h. c .form-at .ensures (treeOf (a .k) D) h ∙ sym (ap formOf (paint-none (a .k) (a .b) (a .lo) (a .hi) D (c .before .if1 .taken)))
+  returns : after-lts.Need-returns (calls t) (after-at t) after.Post
+  returns c =
+      let a = c .before .before .before .args in
+      λ D h. c .form-at .ensures (treeOf (a .k) D) h ∙ sym (ap formOf (paint-none (a .k) (a .b) (a .lo) (a .hi) D (c .before .if1 .taken)))
 
-after-sub-if2 : (t : ℕ) → after-lts.Need-sub-if2 (calls t) (after-at t) after.Post
-after-sub-if2 t c =
-    let s = c .before .before in
-    let a = s .args in
-    let w = now (a .w) in
-    let here = s .pre .1 in
-    omega (arith, laws.span-pos w (a .at .0) (a .n) (a .k) (a .span) (a .lo) (a .hi) here)
+  sub-if2 : after-lts.Need-sub-if2 (calls t) (after-at t) after.Post
+  sub-if2 c = omega (arith, laws.span-pos (c .before .before .pre .1))
 
-after-flat-requires : (t : ℕ) → after-lts.Need-flat-requires (calls t) (after-at t) after.Post
-after-flat-requires t c κs = search needs
+  flat-requires : after-lts.Need-flat-requires (calls t) (after-at t) after.Post
+  flat-requires c κs = search needs
 
-after-returns-2 : (t : ℕ) → after-lts.Need-returns-2 (calls t) (after-at t) after.Post
-after-returns-2 t c =
-    let s = c .before .before .before .before in
-    let a = s .args in
-    let w = now (a .w) in
-    let here = s .pre .1 in
-    λ D h. c .flat .ensures ∙ sym (ap formOf (laws.whole-tree w (a .at .0) (a .n) (a .k) (a .span) (a .lo) (a .hi) here (c .before .before .if1 .left) (c .before .if2 .taken) (a .b) D))
+  returns-2 : after-lts.Need-returns-2 (calls t) (after-at t) after.Post
+  returns-2 c =
+      let s = c .before .before .before .before in
+      λ D h. c .flat .ensures ∙ sym (ap formOf (laws.whole-tree (s .pre .1) (s .args .lo) (c .before .before .if1 .left) (c .before .if2 .taken) (s .args .b) D))
 
-after-halves-requires : (t : ℕ) → after-lts.Need-halves-requires (calls t) (after-at t) after.Post
-after-halves-requires t c κs =
-    let f = c in
-    let s = f .before .before .before in
-    let a = s .args in
-    let w = now (a .w) in
-    let here = s .pre .1 in
-    let deep = laws.deep w (a .at .0) (a .n) (a .k) (a .span) (a .lo) (a .hi) here (f .before .if1 .left) (f .if2 .left) in
-    laws.as-sub w (a .at .0) (a .n) (a .k) (a .span) (a .lo) (a .hi) here deep
+  deep : (c : after-lts.Else2 (calls t) (after-at t) after.Post) → c .before .before .before .args .k ≡ 0 → ⊥
+  deep c = laws.deep (c .before .before .before .pre .1) (c .before .before .before .args .lo) (c .before .if1 .left) (c .if2 .left)
 
-after-parted-requires : (t : ℕ) → after-lts.Need-parted-requires (calls t) (after-at t) after.Post
-after-parted-requires t c κs =
-    let f = c .before in
-    let s = f .before .before .before in
-    let a = s .args in
-    let w = now (a .w) in
-    let here = s .pre .1 in
-    let deep = laws.deep w (a .at .0) (a .n) (a .k) (a .span) (a .lo) (a .hi) here (f .before .if1 .left) (f .if2 .left) in
-    laws.half-pos w (a .at .0) (a .n) (a .k) (a .span) (a .lo) (a .hi) here deep
+  halves-requires : after-lts.Need-halves-requires (calls t) (after-at t) after.Post
+  halves-requires c κs = laws.as-sub (c .before .before .before .pre .1) (deep c)
 
-after-sub-after : (t : ℕ) → after-lts.Need-sub-after (calls t) (after-at t) after.Post
-after-sub-after t c =
-    let f = c .before .before in
-    let s = f .before .before .before in
-    let a = s .args in
-    let w = now (a .w) in
-    let here = s .pre .1 in
-    let deep = laws.deep w (a .at .0) (a .n) (a .k) (a .span) (a .lo) (a .hi) here (f .before .if1 .left) (f .if2 .left) in
-    omega arith
+  parted-requires : after-lts.Need-parted-requires (calls t) (after-at t) after.Post
+  parted-requires c κs = laws.half-pos (c .before .before .before .before .pre .1) (deep (c .before))
 
-after-after-requires : (t : ℕ) → after-lts.Need-after-requires (calls t) (after-at t) after.Post
-after-after-requires t c κs =
-    let f = c .before .before in
-    let s = f .before .before .before in
-    let a = s .args in
-    let w = now (a .w) in
-    let here = s .pre .1 in
-    let deep = laws.deep w (a .at .0) (a .n) (a .k) (a .span) (a .lo) (a .hi) here (f .before .if1 .left) (f .if2 .left) in
-    let g = c in
-    let h = g .before .halves .result in
-    let r = g .parted .result in
-    (omega (arith, s .pre .0), laws.left-spot w (a .at .0) (a .n) (a .k) (a .span) (a .lo) (a .hi) here deep (h .lp .0) (h .ln) (h .rp .0) (h .rn) (g .before .halves .ensures) (r .llo) (r .lhi) (r .rlo) (r .rhi) (g .parted .ensures))
+  -- the descent to the halves
+  down :
+      (c : after-lts.After-parted (calls t) (after-at t) after.Post) →
+      let s = c .before .before .before .before .before in
+      let h = c .before .halves .result in
+      let r = c .parted .result in
+      laws.Down (s .pre .1) (s .args .lo) (h .lp .0) (h .ln) (h .rp .0) (h .rn) (r .llo) (r .lhi) (r .rlo) (r .rhi)
+  down c = record { deep = deep (c .before .before); halved = c .before .halves .ensures; cut = c .parted .ensures }
 
-after-sub-after-2 : (t : ℕ) → after-lts.Need-sub-after-2 (calls t) (after-at t) after.Post
-after-sub-after-2 t c =
-    let f = c .before .before .before in
-    let s = f .before .before .before in
-    let a = s .args in
-    let w = now (a .w) in
-    let here = s .pre .1 in
-    let deep = laws.deep w (a .at .0) (a .n) (a .k) (a .span) (a .lo) (a .hi) here (f .before .if1 .left) (f .if2 .left) in
-    omega arith
+  sub-after : after-lts.Need-sub-after (calls t) (after-at t) after.Post
+  sub-after c = let d = down c in omega arith
 
-after-after-requires-2 : (t : ℕ) → after-lts.Need-after-requires-2 (calls t) (after-at t) after.Post
-after-after-requires-2 t c κs =
-    let f = c .before .before .before in
-    let s = f .before .before .before in
-    let a = s .args in
-    let w = now (a .w) in
-    let here = s .pre .1 in
-    let deep = laws.deep w (a .at .0) (a .n) (a .k) (a .span) (a .lo) (a .hi) here (f .before .if1 .left) (f .if2 .left) in
-    let g = c .before in
-    let h = g .before .halves .result in
-    let r = g .parted .result in
-    (omega (arith, s .pre .0), laws.right-spot w (a .at .0) (a .n) (a .k) (a .span) (a .lo) (a .hi) here deep (h .lp .0) (h .ln) (h .rp .0) (h .rn) (g .before .halves .ensures) (r .llo) (r .lhi) (r .rlo) (r .rhi) (g .parted .ensures))
+  after-requires : after-lts.Need-after-requires (calls t) (after-at t) after.Post
+  after-requires c κs =
+      let s = c .before .before .before .before .before in
+      let d = down c in
+      (omega (arith, s .pre .0), laws.left-spot (s .pre .1) d)
 
-after-joined-requires : (t : ℕ) → after-lts.Need-joined-requires (calls t) (after-at t) after.Post
-after-joined-requires t c κs =
-    let f = c .before .before .before .before in
-    let s = f .before .before .before in
-    let a = s .args in
-    let w = now (a .w) in
-    let here = s .pre .1 in
-    let deep = laws.deep w (a .at .0) (a .n) (a .k) (a .span) (a .lo) (a .hi) here (f .before .if1 .left) (f .if2 .left) in
-    let g = c .before .before in
-    let h = g .before .halves .result in
-    let r = g .parted .result in
-    let m = laws.mine w (a .at .0) (a .n) (a .k) (a .span) (a .lo) (a .hi) here deep (h .lp .0) (h .ln) (h .rp .0) (h .rn) (g .before .halves .ensures) (r .llo) (r .lhi) (r .rlo) (r .rhi) (g .parted .ensures) in
-    let S = here .set in
-    let R = shift (2 ^ (a .k - 1)) S in
-    omega (arith, ap splitsOf (c .before .after .ensures S (m .left)), ap splitsOf (c .after2 .ensures R (m .right)), laws.form-small w (a .at .0) (a .n) (a .k) (a .span) (a .lo) (a .hi) here deep (h .lp .0) (h .ln) (h .rp .0) (h .rn) (g .before .halves .ensures) (r .llo) (r .lhi) (r .rlo) (r .rhi) (g .parted .ensures) (paint (a .b) (r .llo) (r .lhi) S), laws.form-small w (a .at .0) (a .n) (a .k) (a .span) (a .lo) (a .hi) here deep (h .lp .0) (h .ln) (h .rp .0) (h .rn) (g .before .halves .ensures) (r .llo) (r .lhi) (r .rlo) (r .rhi) (g .parted .ensures) (paint (a .b) (r .rlo) (r .rhi) R))
+  sub-after-2 : after-lts.Need-sub-after-2 (calls t) (after-at t) after.Post
+  sub-after-2 c = let d = down (c .before) in omega arith
 
-after-returns-3 : (t : ℕ) → after-lts.Need-returns-3 (calls t) (after-at t) after.Post
-after-returns-3 t c =
-    let f = c .before .before .before .before .before in
-    let s = f .before .before .before in
-    let a = s .args in
-    let w = now (a .w) in
-    let here = s .pre .1 in
-    let deep = laws.deep w (a .at .0) (a .n) (a .k) (a .span) (a .lo) (a .hi) here (f .before .if1 .left) (f .if2 .left) in
-    let g = c .before .before .before in
-    let h = g .before .halves .result in
-    let r = g .parted .result in
-    λ D at. let v = g .before .halves .ensures D at in c .joined .ensures ∙ ap₂ joinForm (c .before .before .after .ensures D (v .left)) (c .before .after2 .ensures (shift (2 ^ (a .k - 1)) D) (v .right)) ∙ sym (laws.cut-form w (a .at .0) (a .n) (a .k) (a .span) (a .lo) (a .hi) here deep (h .lp .0) (h .ln) (h .rp .0) (h .rn) (g .before .halves .ensures) (r .llo) (r .lhi) (r .rlo) (r .rhi) (g .parted .ensures) (a .b) D)
+  after-requires-2 : after-lts.Need-after-requires-2 (calls t) (after-at t) after.Post
+  after-requires-2 c κs =
+      let s = c .before .before .before .before .before .before in
+      let d = down (c .before) in
+      (omega (arith, s .pre .0), laws.right-spot (s .pre .1) d)
+
+  joined-requires : after-lts.Need-joined-requires (calls t) (after-at t) after.Post
+  joined-requires c κs =
+      let s = c .before .before .before .before .before .before .before in
+      laws.joined-room (s .pre .1) (down (c .before .before)) (s .args .b) (c .before .after .ensures) (c .after2 .ensures)
+
+  returns-3 : after-lts.Need-returns-3 (calls t) (after-at t) after.Post
+  returns-3 c =
+      let s = c .before .before .before .before .before .before .before .before in
+      laws.joined-is (s .pre .1) (down (c .before .before .before)) (s .args .b) (c .before .before .after .ensures) (c .before .after2 .ensures) (c .joined .ensures)
 
 pub +after-spec : {M : Type 1} → statement M
 +after-spec = close μ-after λ t. after-lts.spec (calls t)
     (after-at t)
     after.Post
-    (after-form-at-requires t)
-    (after-returns t)
-    (after-sub-if2 t)
-    (after-flat-requires t)
-    (after-returns-2 t)
-    (after-halves-requires t)
-    (after-parted-requires t)
-    (after-sub-after t)
-    (after-after-requires t)
-    (after-sub-after-2 t)
-    (after-after-requires-2 t)
-    (after-joined-requires t)
-    (after-returns-3 t)
+    (form-at-requires t)
+    (returns t)
+    (sub-if2 t)
+    (flat-requires t)
+    (returns-2 t)
+    (halves-requires t)
+    (parted-requires t)
+    (sub-after t)
+    (after-requires t)
+    (sub-after-2 t)
+    (after-requires-2 t)
+    (joined-requires t)
+    (returns-3 t)

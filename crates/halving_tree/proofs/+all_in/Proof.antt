@@ -1,11 +1,14 @@
+-- `all_in` meets its contract. Assumes nothing.
 use borrow.Author.Needs.{needs}
 use denote.Ref.{now}
 use native.Mathlib.Omega.{arith}
-use mathlib.Core.Path.{subst}
-use Rattle.halving_tree.specs.loops.Place.{Says, AllIn}
-use Rattle.halving_tree.specs.Tree.{shift}
+use mathlib.Core.Path.{_≡_, subst}
+use mathlib.Core.Bool.{Bool}
+use lib.ListN.{getD}
+use Rattle.halving_tree.specs.loops.Place.{At, Says, AllIn}
+use Rattle.halving_tree.specs.Tree.{treeOf, shift}
 use Rattle.halving_tree.proofs.AskLaws as laws
-use Prim.Native.Nat.{ℕ, _-_, _/_, _^_, _<_}
+use Prim.Native.Nat.{ℕ, _-_, _/_, _^_, _≤_, _<_}
 use borrow.Fn.Kinds.{In}
 use borrow.Fn.PlainCycle.{Measures, is, falls, and}
 use Rattle.halving_tree.proofs.all_in.Reads as all-in
@@ -23,288 +26,145 @@ all-in-at t = and 1 all-in-kinds.ps (is 1 all-in-kinds.ps μ-all-in t) all-in.Pr
 abbrev all-in-below : ℕ → In 1 all-in-kinds.ps
 all-in-below t = and 1 all-in-kinds.ps (falls 1 all-in-kinds.ps _<_ μ-all-in t) all-in.Pre
 
-all-in-mul-v :
-    (t : ℕ) → all-in-lts.Need-mul-v (all-in-below t, all-in.Post) (all-in-at t) all-in.Post
-all-in-mul-v t c =
-    let s = c .before in
-    let a = s .args in
-    let w = now (a .w) in
-    let here = s .pre .1 in
-    omega (arith, laws.in-words w (a .at .0) (a .k) (a .span) (a .lo) (a .hi) here)
+-- what each call asks and gives
+abbrev calls : ℕ → all-in-lts.Claims
+calls t = (all-in-below t, all-in.Post)
 
-all-in-shared-slice-read-v : (t : ℕ) → all-in-lts.Need-shared-slice-read-v (
-  all-in-below t,
-  all-in.Post,
-) (all-in-at t) all-in.Post
-all-in-shared-slice-read-v t c =
-    let s = c .before .before in
-    let a = s .args in
-    let w = now (a .w) in
-    let here = s .pre .1 in
-    omega (arith, laws.in-words w (a .at .0) (a .k) (a .span) (a .lo) (a .hi) here)
+module _ (t : ℕ) where
+  mul-v : all-in-lts.Need-mul-v (calls t) (all-in-at t) all-in.Post
+  mul-v c = omega (arith, laws.in-words (c .before .pre .1))
 
-all-in-returns :
-    (t : ℕ) → all-in-lts.Need-returns (all-in-below t, all-in.Post) (all-in-at t) all-in.Post
-all-in-returns t c =
-    let s = c .before .before .before in
-    let a = s .args in
-    let w = now (a .w) in
-    let here = s .pre .1 in
-    laws.says-out w (a .at .0) (a .k) (a .span) (a .lo) (a .hi) here (c .if1 .taken)
+  read-v : all-in-lts.Need-shared-slice-read-v (calls t) (all-in-at t) all-in.Post
+  read-v c = omega (arith, laws.in-words (c .before .before .pre .1))
 
-all-in-returns-2 :
-    (t : ℕ) → all-in-lts.Need-returns-2 (all-in-below t, all-in.Post) (all-in-at t) all-in.Post
-all-in-returns-2 t c =
-    let s = c .before .before .before .before in
-    let a = s .args in
-    let w = now (a .w) in
-    let here = s .pre .1 in
-    laws.says-in w (a .at .0) (a .k) (a .span) (a .lo) (a .hi) here (c .if2 .taken)
+  returns : all-in-lts.Need-returns (calls t) (all-in-at t) all-in.Post
+  returns c = laws.says-out (c .before .before .before .pre .1) (c .if1 .taken)
 
-all-in-cast-q :
-    (t : ℕ) → all-in-lts.Need-cast-q (all-in-below t, all-in.Post) (all-in-at t) all-in.Post
-all-in-cast-q t c =
-    let e = c in
-    let s = e .before .before .before .before in
-    let a = s .args in
-    let n0 = e .before .if1 .left in
-    let n1 = e .if2 .left in
-    omega (arith, e .before .before .shared-slice-known2 .given (a .at .0))
+  returns-2 : all-in-lts.Need-returns-2 (calls t) (all-in-at t) all-in.Post
+  returns-2 c = laws.says-in (c .before .before .before .before .pre .1) (c .if2 .taken)
 
-all-in-add-q :
-    (t : ℕ) → all-in-lts.Need-add-q (all-in-below t, all-in.Post) (all-in-at t) all-in.Post
-all-in-add-q t c =
-    let e = c in
-    let s = e .before .before .before .before in
-    let a = s .args in
-    let w = now (a .w) in
-    let here = s .pre .1 in
-    let n0 = e .before .if1 .left in
-    let n1 = e .if2 .left in
-    omega (arith, laws.right-in w (a .at .0) (a .k) (a .span) (a .lo) (a .hi) here n0 n1, s .good .0 .0)
+  -- the tree is a split
+  two : (c : all-in-lts.Else2 (calls t) (all-in-at t) all-in.Post) → let a = c .before .before .before .before .args in 2 ≤ getD (now (a .w)) (a .at .0) 0
+  two c = omega (arith, c .before .if1 .left, c .if2 .left)
 
-all-in-sub-q :
-    (t : ℕ) → all-in-lts.Need-sub-q (all-in-below t, all-in.Post) (all-in-at t) all-in.Post
-all-in-sub-q t c = search needs
+  deep : (c : all-in-lts.Else2 (calls t) (all-in-at t) all-in.Post) → c .before .before .before .before .args .k ≡ 0 → ⊥
+  deep c = laws.deep (c .before .before .before .before .pre .1) (two c)
 
-all-in-add-all-in :
-    (t : ℕ) → all-in-lts.Need-add-t16 (all-in-below t, all-in.Post) (all-in-at t) all-in.Post
-all-in-add-all-in t c =
-    let e = c .before in
-    let s = e .before .before .before .before in
-    let a = s .args in
-    let w = now (a .w) in
-    let here = s .pre .1 in
-    let n0 = e .before .if1 .left in
-    let n1 = e .if2 .left in
-    omega (arith, laws.in-words w (a .at .0) (a .k) (a .span) (a .lo) (a .hi) here)
+  cast-q : all-in-lts.Need-cast-q (calls t) (all-in-at t) all-in.Post
+  cast-q c = omega (arith, c .before .before .shared-slice-known2 .given (c .before .before .before .before .args .at .0))
 
-all-in-sub-all-in :
-    (t : ℕ) → all-in-lts.Need-sub-all-in (all-in-below t, all-in.Post) (all-in-at t) all-in.Post
-all-in-sub-all-in t c =
-    let e = c .before in
-    let s = e .before .before .before .before in
-    let a = s .args in
-    let w = now (a .w) in
-    let here = s .pre .1 in
-    let n0 = e .before .if1 .left in
-    let n1 = e .if2 .left in
-    let deep = laws.deep w (a .at .0) (a .k) (a .span) (a .lo) (a .hi) here n0 n1 in
-    omega arith
+  add-q : all-in-lts.Need-add-q (calls t) (all-in-at t) all-in.Post
+  add-q c = omega (arith, laws.right-in (c .before .before .before .before .pre .1) (two c), c .before .before .before .before .good .0 .0)
 
-all-in-all-in-requires :
-    (t : ℕ) →
-    all-in-lts.Need-all-in-requires (all-in-below t, all-in.Post) (all-in-at t) all-in.Post
-all-in-all-in-requires t c κs =
-    let e = c .before in
-    let s = e .before .before .before .before in
-    let a = s .args in
-    let w = now (a .w) in
-    let here = s .pre .1 in
-    let n0 = e .before .if1 .left in
-    let n1 = e .if2 .left in
-    ((let deep = laws.deep w (a .at .0) (a .k) (a .span) (a .lo) (a .hi) here n0 n1 in omega (arith, s .pre .0)), laws.go-left w (a .at .0) (a .k) (a .span) (a .lo) (a .hi) here n0 n1 (a .hi) (c .if3 .taken) (here .order))
+  sub-q : all-in-lts.Need-sub-q (calls t) (all-in-at t) all-in.Post
+  sub-q c = search needs
 
-all-in-returns-3 :
-    (t : ℕ) → all-in-lts.Need-returns-3 (all-in-below t, all-in.Post) (all-in-at t) all-in.Post
-all-in-returns-3 t c =
-    let e = c .before .before in
-    let s = e .before .before .before .before in
-    let a = s .args in
-    let w = now (a .w) in
-    let here = s .pre .1 in
-    let n0 = e .before .if1 .left in
-    let n1 = e .if2 .left in
-    λ D h. c .all-in .ensures D (laws.halves w (a .at .0) (a .k) (a .span) (a .lo) (a .hi) here n0 n1 D h .left)
+  add-low : all-in-lts.Need-add-t16 (calls t) (all-in-at t) all-in.Post
+  add-low c = omega (arith, laws.in-words (c .before .before .before .before .before .pre .1))
 
-all-in-sub-all-in-2 :
-    (t : ℕ) → all-in-lts.Need-sub-all-in-2 (all-in-below t, all-in.Post) (all-in-at t) all-in.Post
-all-in-sub-all-in-2 t c =
-    let e = c .before .before in
-    let s = e .before .before .before .before in
-    let a = s .args in
-    let w = now (a .w) in
-    let here = s .pre .1 in
-    let n0 = e .before .if1 .left in
-    let n1 = e .if2 .left in
-    let deep = laws.deep w (a .at .0) (a .k) (a .span) (a .lo) (a .hi) here n0 n1 in
-    omega arith
+  sub-low : all-in-lts.Need-sub-all-in (calls t) (all-in-at t) all-in.Post
+  sub-low c = let d = deep (c .before) in omega arith
 
-all-in-all-in-requires-2 : (t : ℕ) → all-in-lts.Need-all-in-requires-2 (
-  all-in-below t,
-  all-in.Post,
-) (all-in-at t) all-in.Post
-all-in-all-in-requires-2 t c κs =
-    let e = c .before .before in
-    let s = e .before .before .before .before in
-    let a = s .args in
-    let w = now (a .w) in
-    let here = s .pre .1 in
-    let n0 = e .before .if1 .left in
-    let n1 = e .if2 .left in
-    ((let deep = laws.deep w (a .at .0) (a .k) (a .span) (a .lo) (a .hi) here n0 n1 in omega (arith, s .pre .0)), laws.go-right w (a .at .0) (a .k) (a .span) (a .lo) (a .hi) here n0 n1 (a .lo - a .span / 2) (c .before .if3 .left) (omega (arith, here .order)))
+  low-requires : all-in-lts.Need-all-in-requires (calls t) (all-in-at t) all-in.Post
+  low-requires c κs =
+      let e = c .before in
+      let s = e .before .before .before .before in
+      let d = deep e in
+      (omega (arith, s .pre .0), laws.go-left (s .pre .1) (two e) (s .pre .1 .order) (c .if3 .taken))
 
-all-in-returns-4 :
-    (t : ℕ) → all-in-lts.Need-returns-4 (all-in-below t, all-in.Post) (all-in-at t) all-in.Post
-all-in-returns-4 t c =
-    let e = c .before .before .before in
-    let s = e .before .before .before .before in
-    let a = s .args in
-    let w = now (a .w) in
-    let here = s .pre .1 in
-    let n0 = e .before .if1 .left in
-    let n1 = e .if2 .left in
-    λ D h. laws.says-high w (a .at .0) (a .k) (a .span) (a .lo) (a .hi) here n0 n1 (c .all-in2 .result) D (c .before .if4 .taken) (c .all-in2 .ensures (shift (2 ^ (a .k - 1)) D) (laws.right-at w (a .at .0) (a .k) (a .span) (a .lo) (a .hi) here n0 n1 D h))
+  returns-3 : all-in-lts.Need-returns-3 (calls t) (all-in-at t) all-in.Post
+  returns-3 c =
+      let e = c .before .before in
+      λ D h. c .all-in .ensures D (laws.halves (e .before .before .before .before .pre .1) (two e) D h .left)
 
-all-in-add-all-in-2 :
-    (t : ℕ) → all-in-lts.Need-add-t15 (all-in-below t, all-in.Post) (all-in-at t) all-in.Post
-all-in-add-all-in-2 t c =
-    let e = c .before .before in
-    let s = e .before .before .before .before in
-    let a = s .args in
-    let w = now (a .w) in
-    let here = s .pre .1 in
-    let n0 = e .before .if1 .left in
-    let n1 = e .if2 .left in
-    omega (arith, laws.in-words w (a .at .0) (a .k) (a .span) (a .lo) (a .hi) here)
+  sub-high : all-in-lts.Need-sub-all-in-2 (calls t) (all-in-at t) all-in.Post
+  sub-high c = let d = deep (c .before .before) in omega arith
 
-all-in-sub-all-in-3 :
-    (t : ℕ) → all-in-lts.Need-sub-all-in-3 (all-in-below t, all-in.Post) (all-in-at t) all-in.Post
-all-in-sub-all-in-3 t c =
-    let e = c .before .before in
-    let s = e .before .before .before .before in
-    let a = s .args in
-    let w = now (a .w) in
-    let here = s .pre .1 in
-    let n0 = e .before .if1 .left in
-    let n1 = e .if2 .left in
-    let deep = laws.deep w (a .at .0) (a .k) (a .span) (a .lo) (a .hi) here n0 n1 in
-    omega arith
+  high-requires : all-in-lts.Need-all-in-requires-2 (calls t) (all-in-at t) all-in.Post
+  high-requires c κs =
+      let e = c .before .before in
+      let s = e .before .before .before .before in
+      let d = deep e in
+      (omega (arith, s .pre .0), laws.go-right (s .pre .1) (two e) (omega (arith, s .pre .1 .order)) (laws.high-in (s .pre .1) (two e)))
 
-all-in-sub-all-in-4 :
-    (t : ℕ) → all-in-lts.Need-sub-all-in-4 (all-in-below t, all-in.Post) (all-in-at t) all-in.Post
-all-in-sub-all-in-4 t c =
-    let e = c .before .before in
-    let s = e .before .before .before .before in
-    let a = s .args in
-    let w = now (a .w) in
-    let here = s .pre .1 in
-    let n0 = e .before .if1 .left in
-    let n1 = e .if2 .left in
-    omega (arith, laws.half-pos w (a .at .0) (a .k) (a .span) (a .lo) (a .hi) here n0 n1)
+  returns-4 : all-in-lts.Need-returns-4 (calls t) (all-in-at t) all-in.Post
+  returns-4 c =
+      let e = c .before .before .before in
+      let here = e .before .before .before .before .pre .1 in
+      λ D h. laws.says-high here (two e) (c .all-in2 .result) D (c .before .if4 .taken) (c .all-in2 .ensures (shift (2 ^ (e .before .before .before .before .args .k - 1)) D) (laws.right-at here (two e) D h))
 
-all-in-all-in-requires-3 : (t : ℕ) → all-in-lts.Need-all-in-requires-3 (
-  all-in-below t,
-  all-in.Post,
-) (all-in-at t) all-in.Post
-all-in-all-in-requires-3 t c κs =
-    let e = c .before .before in
-    let s = e .before .before .before .before in
-    let a = s .args in
-    let w = now (a .w) in
-    let here = s .pre .1 in
-    let n0 = e .before .if1 .left in
-    let n1 = e .if2 .left in
-    ((let deep = laws.deep w (a .at .0) (a .k) (a .span) (a .lo) (a .hi) here n0 n1 in omega (arith, s .pre .0)), laws.go-left w (a .at .0) (a .k) (a .span) (a .lo) (a .hi) here n0 n1 (a .span / 2 - 1) (omega (arith, laws.half-pos w (a .at .0) (a .k) (a .span) (a .lo) (a .hi) here n0 n1)) (omega (arith, c .if4 .left)))
+  add-left : all-in-lts.Need-add-t15 (calls t) (all-in-at t) all-in.Post
+  add-left c = omega (arith, laws.in-words (c .before .before .before .before .before .before .pre .1))
 
-all-in-sub-all-in-5 :
-    (t : ℕ) → all-in-lts.Need-sub-all-in-5 (all-in-below t, all-in.Post) (all-in-at t) all-in.Post
-all-in-sub-all-in-5 t c =
-    let e = c .before .before .before .before in
-    let s = e .before .before .before .before in
-    let a = s .args in
-    let w = now (a .w) in
-    let here = s .pre .1 in
-    let n0 = e .before .if1 .left in
-    let n1 = e .if2 .left in
-    let deep = laws.deep w (a .at .0) (a .k) (a .span) (a .lo) (a .hi) here n0 n1 in
-    omega arith
+  sub-left : all-in-lts.Need-sub-all-in-3 (calls t) (all-in-at t) all-in.Post
+  sub-left c = let d = deep (c .before .before) in omega arith
 
-all-in-all-in-requires-4 : (t : ℕ) → all-in-lts.Need-all-in-requires-4 (
-  all-in-below t,
-  all-in.Post,
-) (all-in-at t) all-in.Post
-all-in-all-in-requires-4 t c κs =
-    let e = c .before .before .before .before in
-    let s = e .before .before .before .before in
-    let a = s .args in
-    let w = now (a .w) in
-    let here = s .pre .1 in
-    let n0 = e .before .if1 .left in
-    let n1 = e .if2 .left in
-    ((let deep = laws.deep w (a .at .0) (a .k) (a .span) (a .lo) (a .hi) here n0 n1 in omega (arith, s .pre .0)), laws.go-right w (a .at .0) (a .k) (a .span) (a .lo) (a .hi) here n0 n1 0 (c .before .before .before .if3 .left) (omega arith))
+  sub-half : all-in-lts.Need-sub-all-in-4 (calls t) (all-in-at t) all-in.Post
+  sub-half c = omega (arith, laws.half-pos (c .before .before .before .before .before .before .pre .1) (two (c .before .before)))
 
-all-in-returns-5 :
-    (t : ℕ) → all-in-lts.Need-returns-5 (all-in-below t, all-in.Post) (all-in-at t) all-in.Post
-all-in-returns-5 t c =
-    let e = c .before .before .before .before .before in
-    let s = e .before .before .before .before in
-    let a = s .args in
-    let w = now (a .w) in
-    let here = s .pre .1 in
-    let n0 = e .before .if1 .left in
-    let n1 = e .if2 .left in
-    λ D h. laws.says-both w (a .at .0) (a .k) (a .span) (a .lo) (a .hi) here n0 n1 (c .all-in4 .result) D (c .before .before .before .if4 .left) (c .before .before .before .before .if3 .left) (subst (λ r. Says r (AllIn D (a .lo) (a .span / 2 - 1))) (c .before .if5 .taken) (c .before .before .all-in3 .ensures D (laws.halves w (a .at .0) (a .k) (a .span) (a .lo) (a .hi) here n0 n1 D h .left))) (c .all-in4 .ensures (shift (2 ^ (a .k - 1)) D) (laws.right-at w (a .at .0) (a .k) (a .span) (a .lo) (a .hi) here n0 n1 D h))
+  left-requires : all-in-lts.Need-all-in-requires-3 (calls t) (all-in-at t) all-in.Post
+  left-requires c κs =
+      let e = c .before .before in
+      let s = e .before .before .before .before in
+      let d = deep e in
+      (omega (arith, s .pre .0), laws.go-left (s .pre .1) (two e) (omega (arith, c .if4 .left)) (omega (arith, laws.half-pos (s .pre .1) (two e))))
 
-all-in-returns-6 :
-    (t : ℕ) → all-in-lts.Need-returns-6 (all-in-below t, all-in.Post) (all-in-at t) all-in.Post
-all-in-returns-6 t c =
-    let e = c .before .before .before .before in
-    let s = e .before .before .before .before in
-    let a = s .args in
-    let w = now (a .w) in
-    let here = s .pre .1 in
-    let n0 = e .before .if1 .left in
-    let n1 = e .if2 .left in
-    λ D h. laws.says-not w (a .at .0) (a .k) (a .span) (a .lo) (a .hi) here n0 n1 D (c .before .before .before .if3 .left) (subst (λ r. Says r (AllIn D (a .lo) (a .span / 2 - 1))) (c .if5 .left) (c .before .all-in3 .ensures D (laws.halves w (a .at .0) (a .k) (a .span) (a .lo) (a .hi) here n0 n1 D h .left)))
+  sub-right : all-in-lts.Need-sub-all-in-5 (calls t) (all-in-at t) all-in.Post
+  sub-right c = let d = deep (c .before .before .before .before) in omega arith
+
+  right-requires : all-in-lts.Need-all-in-requires-4 (calls t) (all-in-at t) all-in.Post
+  right-requires c κs =
+      let e = c .before .before .before .before in
+      let s = e .before .before .before .before in
+      let d = deep e in
+      (omega (arith, s .pre .0), laws.go-right (s .pre .1) (two e) (omega arith) (laws.high-in (s .pre .1) (two e)))
+
+  -- what the left half said
+  left-says :
+      (c : all-in-lts.After-all-in3 (calls t) (all-in-at t) all-in.Post) →
+      let a = c .before .before .before .before .before .before .before .args in
+      (D : ℕ → Bool) → At (now (a .w)) (a .at .0) (treeOf (a .k) D) → Says (c .all-in3 .result) (AllIn D (a .lo) (a .span / 2 - 1))
+  left-says c D h =
+      let e = c .before .before .before in
+      c .all-in3 .ensures D (laws.halves (e .before .before .before .before .pre .1) (two e) D h .left)
+
+  returns-5 : all-in-lts.Need-returns-5 (calls t) (all-in-at t) all-in.Post
+  returns-5 c =
+      let f = c .before .before .before in
+      let e = f .before .before in
+      let s = e .before .before .before .before in
+      λ D h. laws.says-both (s .pre .1) (two e) (c .all-in4 .result) D (f .if4 .left) (f .before .if3 .left) (subst (λ r. Says r (AllIn D (s .args .lo) (s .args .span / 2 - 1))) (c .before .if5 .taken) (left-says (c .before .before) D h)) (c .all-in4 .ensures (shift (2 ^ (s .args .k - 1)) D) (laws.right-at (s .pre .1) (two e) D h))
+
+  returns-6 : all-in-lts.Need-returns-6 (calls t) (all-in-at t) all-in.Post
+  returns-6 c =
+      let f = c .before .before in
+      let e = f .before .before in
+      let s = e .before .before .before .before in
+      λ D h. laws.says-not (s .pre .1) (two e) D (f .before .if3 .left) (subst (λ r. Says r (AllIn D (s .args .lo) (s .args .span / 2 - 1))) (c .if5 .left) (left-says (c .before) D h))
 
 pub +all-in-spec : {M : Type 1} → statement M
-+all-in-spec =
-    close
-    μ-all-in
-    λ t. all-in-lts.spec
-    (all-in-below t, all-in.Post)
++all-in-spec = close μ-all-in λ t. all-in-lts.spec (calls t)
     (all-in-at t)
     all-in.Post
-    (all-in-mul-v t)
-    (all-in-shared-slice-read-v t)
-    (all-in-returns t)
-    (all-in-returns-2 t)
-    (all-in-cast-q t)
-    (all-in-add-q t)
-    (all-in-sub-q t)
-    (all-in-add-all-in t)
-    (all-in-sub-all-in t)
-    (all-in-all-in-requires t)
-    (all-in-returns-3 t)
-    (all-in-sub-all-in-2 t)
-    (all-in-all-in-requires-2 t)
-    (all-in-returns-4 t)
-    (all-in-add-all-in-2 t)
-    (all-in-sub-all-in-3 t)
-    (all-in-sub-all-in-4 t)
-    (all-in-all-in-requires-3 t)
-    (all-in-sub-all-in-5 t)
-    (all-in-all-in-requires-4 t)
-    (all-in-returns-5 t)
-    (all-in-returns-6 t)
+    (mul-v t)
+    (read-v t)
+    (returns t)
+    (returns-2 t)
+    (cast-q t)
+    (add-q t)
+    (sub-q t)
+    (add-low t)
+    (sub-low t)
+    (low-requires t)
+    (returns-3 t)
+    (sub-high t)
+    (high-requires t)
+    (returns-4 t)
+    (add-left t)
+    (sub-left t)
+    (sub-half t)
+    (left-requires t)
+    (sub-right t)
+    (right-requires t)
+    (returns-5 t)
+    (returns-6 t)

@@ -1,14 +1,15 @@
-use lib.ListN.{length, set, length-set}
-use Rattle.halving_tree.specs.Tree.{treeOf, shift, paint}
-use Rattle.halving_tree.specs.loops.Form.{kindOf, formOf, Fill}
+-- `put` meets its contract. Assumes nothing.
+use Rattle.halving_tree.specs.Tree.{treeOf, paint}
+use Rattle.halving_tree.specs.loops.Place.{At}
+use Rattle.halving_tree.specs.loops.Form.{kindOf, formOf}
 use Rattle.halving_tree.proofs.PutLaws as laws
 use Rattle.halving_tree.proofs.AfterLaws as alaws
 use mathlib.Core.Bool.{Bool}
-use mathlib.Core.Path.{ap, sym, subst, _∙_}
+use mathlib.Core.Path.{_≡_, ap, subst, _∙_}
 use denote.Ref.{now}
 use native.Mathlib.Omega.{arith}
 use borrow.Author.Needs.{needs}
-use Prim.Native.Nat.{ℕ, _+_, _-_, _/_, _^_, _<_, _≤_}
+use Prim.Native.Nat.{ℕ, _<_, _≤_}
 use borrow.Fn.Kinds.{In}
 use borrow.Fn.PlainCycle.{Measures, is, falls, and}
 use Rattle.halving_tree.proofs.put.Reads as put
@@ -19,6 +20,8 @@ use Rattle.halving_tree.proofs.copy.Reads as copy-reads
 use Rattle.halving_tree.proofs.halves.Reads as halves-reads
 use Rattle.halving_tree.proofs.kind.Reads as kind-reads
 use Rattle.halving_tree.proofs.parted.Reads as parted-reads
+use Rattle.halving_tree.proofs.put_leaf.Reads as put-leaf-reads
+use Rattle.halving_tree.proofs.put_split.Reads as put-split-reads
 use Rattle.halving_tree.proofs.+put.{statement}
 use Rattle.halving_tree.proofs.+put.Tie.{close}
 
@@ -31,677 +34,139 @@ put-at t = and 2 put-kinds.ps (is 2 put-kinds.ps μ-put t) put.Pre
 abbrev put-below : ℕ → In 2 put-kinds.ps
 put-below t = and 2 put-kinds.ps (falls 2 put-kinds.ps _<_ μ-put t) put.Pre
 
-put-copy-requires : (t : ℕ) → put-lts.Need-copy-requires (
-  copy-reads.Asked,
-  copy-reads.Learnt,
-  after-reads.Asked,
-  after-reads.Learnt,
-  kind-reads.Asked,
-  kind-reads.Learnt,
-  halves-reads.Asked,
-  halves-reads.Learnt,
-  parted-reads.Asked,
-  parted-reads.Learnt,
-  put-below t,
-  put.Post,
-) (put-at t) put.Post
-put-copy-requires t c κs =
-    let s = c .before .before .before .before in
-    let a = s .args in
-    let w = now (a .w) in
-    let o = now (a .out) in
-    let here = s .pre .1 in
-    laws.none-room w (a .at .0) (a .n) (a .k) (a .span) (a .lo) (a .hi) (a .b) (length o) (a .to .0) here (c .before .if1 .taken)
+-- what each call asks and gives
+abbrev calls : ℕ → put-lts.Claims
+calls t = (copy-reads.Asked, copy-reads.Learnt, after-reads.Asked, after-reads.Learnt, kind-reads.Asked, kind-reads.Learnt, put-leaf-reads.Asked, put-leaf-reads.Learnt, halves-reads.Asked, halves-reads.Learnt, parted-reads.Asked, parted-reads.Learnt, put-below t, put.Post, put-split-reads.Asked, put-split-reads.Learnt)
 
-put-add-result : (t : ℕ) → put-lts.Need-add-t23 (
-  copy-reads.Asked,
-  copy-reads.Learnt,
-  after-reads.Asked,
-  after-reads.Learnt,
-  kind-reads.Asked,
-  kind-reads.Learnt,
-  halves-reads.Asked,
-  halves-reads.Learnt,
-  parted-reads.Asked,
-  parted-reads.Learnt,
-  put-below t,
-  put.Post,
-) (put-at t) put.Post
-put-add-result t c =
-    let s = c .before .before .before .before .before .before .before in
-    let a = s .args in
-    let w = now (a .w) in
-    let o = now (a .out) in
-    let here = s .pre .1 in
-    omega (arith, laws.none-room w (a .at .0) (a .n) (a .k) (a .span) (a .lo) (a .hi) (a .b) (length o) (a .to .0) here (c .before .before .before .before .if1 .taken), s .good)
+module _ (t : ℕ) where
+  copy-requires : put-lts.Need-copy-requires (calls t) (put-at t) put.Post
+  copy-requires c κs = laws.none-room (c .before .before .before .before .pre .1) (c .before .if1 .taken)
 
-put-same-length : (t : ℕ) → put-lts.Need-same-length (
-  copy-reads.Asked,
-  copy-reads.Learnt,
-  after-reads.Asked,
-  after-reads.Learnt,
-  kind-reads.Asked,
-  kind-reads.Learnt,
-  halves-reads.Asked,
-  halves-reads.Learnt,
-  parted-reads.Asked,
-  parted-reads.Learnt,
-  put-below t,
-  put.Post,
-) (put-at t) put.Post
-put-same-length t c = c .before .before .copy .kept .1 .1 .1 .0
+  add-after : put-lts.Need-add-t23 (calls t) (put-at t) put.Post
+  add-after c =
+      let s = c .before .before .before .before .before .before .before in
+      omega (arith, laws.none-room (s .pre .1) (c .before .before .before .before .if1 .taken), s .good)
 
-put-returns : (t : ℕ) → put-lts.Need-returns (
-  copy-reads.Asked,
-  copy-reads.Learnt,
-  after-reads.Asked,
-  after-reads.Learnt,
-  kind-reads.Asked,
-  kind-reads.Learnt,
-  halves-reads.Asked,
-  halves-reads.Learnt,
-  parted-reads.Asked,
-  parted-reads.Learnt,
-  put-below t,
-  put.Post,
-) (put-at t) put.Post
-put-returns t c =
-    let s = c .before .before .before .before .before .before .before in
-    let a = s .args in
-    let w = now (a .w) in
-    let o = now (a .out) in
-    let here = s .pre .1 in
-    laws.none-wrote w (a .at .0) (a .n) (a .k) (a .span) (a .lo) (a .hi) (a .b) (length o) (a .to .0) here (c .before .before .before .before .if1 .taken) o _ (c .before .before .copy .ensures)
+  same-length : put-lts.Need-same-length (calls t) (put-at t) put.Post
+  same-length c = c .before .before .copy .kept .1 .1 .1 .0
 
-put-after-requires : (t : ℕ) → put-lts.Need-after-requires (
-  copy-reads.Asked,
-  copy-reads.Learnt,
-  after-reads.Asked,
-  after-reads.Learnt,
-  kind-reads.Asked,
-  kind-reads.Learnt,
-  halves-reads.Asked,
-  halves-reads.Learnt,
-  parted-reads.Asked,
-  parted-reads.Learnt,
-  put-below t,
-  put.Post,
-) (put-at t) put.Post
-put-after-requires t c κs =
-    let s = c .before .before .before in
-    let here = s .pre .1 in
-    here .spot
+  returns : put-lts.Need-returns (calls t) (put-at t) put.Post
+  returns c =
+      let s = c .before .before .before .before .before .before .before in
+      laws.none-wrote (s .pre .1) (c .before .before .before .before .if1 .taken) (c .before .before .copy .ensures)
 
-put-kind-requires : (t : ℕ) → put-lts.Need-kind-requires (
-  copy-reads.Asked,
-  copy-reads.Learnt,
-  after-reads.Asked,
-  after-reads.Learnt,
-  kind-reads.Asked,
-  kind-reads.Learnt,
-  halves-reads.Asked,
-  halves-reads.Learnt,
-  parted-reads.Asked,
-  parted-reads.Learnt,
-  put-below t,
-  put.Post,
-) (put-at t) put.Post
-put-kind-requires t c κs = search needs
+  after-requires : put-lts.Need-after-requires (calls t) (put-at t) put.Post
+  after-requires c κs = c .before .before .before .pre .1 .spot
 
-put-mul-out : (t : ℕ) → put-lts.Need-mul-out (
-  copy-reads.Asked,
-  copy-reads.Learnt,
-  after-reads.Asked,
-  after-reads.Learnt,
-  kind-reads.Asked,
-  kind-reads.Learnt,
-  halves-reads.Asked,
-  halves-reads.Learnt,
-  parted-reads.Asked,
-  parted-reads.Learnt,
-  put-below t,
-  put.Post,
-) (put-at t) put.Post
-put-mul-out t c =
-    let s = c .before .before .before .before .before .before in
-    let a = s .args in
-    let w = now (a .w) in
-    let o = now (a .out) in
-    let here = s .pre .1 in
-    omega (arith, laws.some-room w (a .at .0) (a .n) (a .k) (a .span) (a .lo) (a .hi) (a .b) (length o) (a .to .0) here, s .good)
+  kind-requires : put-lts.Need-kind-requires (calls t) (put-at t) put.Post
+  kind-requires c κs = search needs
 
-put-slice-write-out : (t : ℕ) → put-lts.Need-slice-write-out (
-  copy-reads.Asked,
-  copy-reads.Learnt,
-  after-reads.Asked,
-  after-reads.Learnt,
-  kind-reads.Asked,
-  kind-reads.Learnt,
-  halves-reads.Asked,
-  halves-reads.Learnt,
-  parted-reads.Asked,
-  parted-reads.Learnt,
-  put-below t,
-  put.Post,
-) (put-at t) put.Post
-put-slice-write-out t c =
-    let s = c .before .before .before .before .before .before in
-    let a = s .args in
-    let w = now (a .w) in
-    let o = now (a .out) in
-    let here = s .pre .1 in
-    omega (arith, laws.some-room w (a .at .0) (a .n) (a .k) (a .span) (a .lo) (a .hi) (a .b) (length o) (a .to .0) here)
+  put-leaf-requires : put-lts.Need-put-leaf-requires (calls t) (put-at t) put.Post
+  put-leaf-requires c κs = laws.some-room (c .before .before .before .before .before .before .before .pre .1)
 
-put-add-result-2 : (t : ℕ) → put-lts.Need-add-t25 (
-  copy-reads.Asked,
-  copy-reads.Learnt,
-  after-reads.Asked,
-  after-reads.Learnt,
-  kind-reads.Asked,
-  kind-reads.Learnt,
-  halves-reads.Asked,
-  halves-reads.Learnt,
-  parted-reads.Asked,
-  parted-reads.Learnt,
-  put-below t,
-  put.Post,
-) (put-at t) put.Post
-put-add-result-2 t c =
-    let s = c .before .before .before .before .before .before in
-    let a = s .args in
-    let w = now (a .w) in
-    let o = now (a .out) in
-    let here = s .pre .1 in
-    omega (arith, laws.some-room w (a .at .0) (a .n) (a .k) (a .span) (a .lo) (a .hi) (a .b) (length o) (a .to .0) here, s .good)
+  same-length-2 : put-lts.Need-same-length-2 (calls t) (put-at t) put.Post
+  same-length-2 c = c .before .before .put-leaf .kept .0
 
-put-same-length-2 : (t : ℕ) → put-lts.Need-same-length-2 (
-  copy-reads.Asked,
-  copy-reads.Learnt,
-  after-reads.Asked,
-  after-reads.Learnt,
-  kind-reads.Asked,
-  kind-reads.Learnt,
-  halves-reads.Asked,
-  halves-reads.Learnt,
-  parted-reads.Asked,
-  parted-reads.Learnt,
-  put-below t,
-  put.Post,
-) (put-at t) put.Post
-put-same-length-2 t c = search needs
+  returns-2 : put-lts.Need-returns-2 (calls t) (put-at t) put.Post
+  returns-2 c =
+      let f = c .before .before .before .before in
+      let s = f .before .before .before .before .before .before in
+      λ D h. laws.leaf-wrote (s .pre .1) (f .if2 .taken) (c .before .before .put-leaf .ensures) D (f .before .kind .ensures ∙ ap kindOf (f .before .before .after .ensures D h))
 
-put-returns-2 : (t : ℕ) → put-lts.Need-returns-2 (
-  copy-reads.Asked,
-  copy-reads.Learnt,
-  after-reads.Asked,
-  after-reads.Learnt,
-  kind-reads.Asked,
-  kind-reads.Learnt,
-  halves-reads.Asked,
-  halves-reads.Learnt,
-  parted-reads.Asked,
-  parted-reads.Learnt,
-  put-below t,
-  put.Post,
-) (put-at t) put.Post
-put-returns-2 t c =
-    let s = c .before .before .before .before .before .before in
-    let a = s .args in
-    let w = now (a .w) in
-    let o = now (a .out) in
-    let here = s .pre .1 in
-    λ D h. laws.leaf-wrote w (a .at .0) (a .n) (a .k) (a .span) (a .lo) (a .hi) (a .b) (length o) (a .to .0) here (c .before .kind .result) (c .if2 .taken) D (c .before .kind .ensures ∙ ap kindOf (c .before .before .after .ensures D h)) o
+  -- the tree to write is a split
+  two :
+      (c : put-lts.Else2 (calls t) (put-at t) put.Post) →
+      let a = c .before .before .before .before .before .before .args in
+      (D : ℕ → Bool) → At (now (a .w)) (a .at .0) (treeOf (a .k) D) → 2 ≤ kindOf (formOf (treeOf (a .k) (paint (a .b) (a .lo) (a .hi) D)))
+  two c D h = subst (λ (i : ℕ). 2 ≤ i) (c .before .kind .ensures ∙ ap kindOf (c .before .before .after .ensures D h)) (c .if2 .left)
 
-put-halves-requires : (t : ℕ) → put-lts.Need-halves-requires (
-  copy-reads.Asked,
-  copy-reads.Learnt,
-  after-reads.Asked,
-  after-reads.Learnt,
-  kind-reads.Asked,
-  kind-reads.Learnt,
-  halves-reads.Asked,
-  halves-reads.Learnt,
-  parted-reads.Asked,
-  parted-reads.Learnt,
-  put-below t,
-  put.Post,
-) (put-at t) put.Post
-put-halves-requires t c κs =
-    let f = c in
-    let s = f .before .before .before .before .before .before in
-    let a = s .args in
-    let w = now (a .w) in
-    let here = s .pre .1 in
-    let S = here .spot .set in
-    let two : (D : ℕ → Bool) → _ → 2 ≤ kindOf (formOf (treeOf (a .k) (paint (a .b) (a .lo) (a .hi) D))) = λ D h. subst (λ (i : ℕ). 2 ≤ i) (f .before .kind .ensures ∙ ap kindOf (f .before .before .after .ensures D h)) (f .if2 .left) in
-    let deep = laws.mixed-deep (a .k) (paint (a .b) (a .lo) (a .hi) S) (two S (here .spot .laid)) in
-    alaws.as-sub w (a .at .0) (a .n) (a .k) (a .span) (a .lo) (a .hi) (here .spot) deep
+  deep : (c : put-lts.Else2 (calls t) (put-at t) put.Post) → c .before .before .before .before .before .before .args .k ≡ 0 → ⊥
+  deep c = laws.deep (c .before .before .before .before .before .before .pre .1) (two c)
 
-put-parted-requires : (t : ℕ) → put-lts.Need-parted-requires (
-  copy-reads.Asked,
-  copy-reads.Learnt,
-  after-reads.Asked,
-  after-reads.Learnt,
-  kind-reads.Asked,
-  kind-reads.Learnt,
-  halves-reads.Asked,
-  halves-reads.Learnt,
-  parted-reads.Asked,
-  parted-reads.Learnt,
-  put-below t,
-  put.Post,
-) (put-at t) put.Post
-put-parted-requires t c κs =
-    let f = c .before in
-    let s = f .before .before .before .before .before .before in
-    let a = s .args in
-    let w = now (a .w) in
-    let here = s .pre .1 in
-    let S = here .spot .set in
-    let two : (D : ℕ → Bool) → _ → 2 ≤ kindOf (formOf (treeOf (a .k) (paint (a .b) (a .lo) (a .hi) D))) = λ D h. subst (λ (i : ℕ). 2 ≤ i) (f .before .kind .ensures ∙ ap kindOf (f .before .before .after .ensures D h)) (f .if2 .left) in
-    let deep = laws.mixed-deep (a .k) (paint (a .b) (a .lo) (a .hi) S) (two S (here .spot .laid)) in
-    alaws.half-pos w (a .at .0) (a .n) (a .k) (a .span) (a .lo) (a .hi) (here .spot) deep
+  halves-requires : put-lts.Need-halves-requires (calls t) (put-at t) put.Post
+  halves-requires c κs = alaws.as-sub (c .before .before .before .before .before .before .pre .1 .spot) (deep c)
 
-put-sub-put : (t : ℕ) → put-lts.Need-sub-put (
-  copy-reads.Asked,
-  copy-reads.Learnt,
-  after-reads.Asked,
-  after-reads.Learnt,
-  kind-reads.Asked,
-  kind-reads.Learnt,
-  halves-reads.Asked,
-  halves-reads.Learnt,
-  parted-reads.Asked,
-  parted-reads.Learnt,
-  put-below t,
-  put.Post,
-) (put-at t) put.Post
-put-sub-put t c =
-    let f = c .before .before in
-    let s = f .before .before .before .before .before .before in
-    let a = s .args in
-    let here = s .pre .1 in
-    let S = here .spot .set in
-    let two : (D : ℕ → Bool) → _ → 2 ≤ kindOf (formOf (treeOf (a .k) (paint (a .b) (a .lo) (a .hi) D))) = λ D h. subst (λ (i : ℕ). 2 ≤ i) (f .before .kind .ensures ∙ ap kindOf (f .before .before .after .ensures D h)) (f .if2 .left) in
-    let deep = laws.mixed-deep (a .k) (paint (a .b) (a .lo) (a .hi) S) (two S (here .spot .laid)) in
-    omega arith
+  parted-requires : put-lts.Need-parted-requires (calls t) (put-at t) put.Post
+  parted-requires c κs = alaws.half-pos (c .before .before .before .before .before .before .before .pre .1 .spot) (deep (c .before))
 
-put-add-put : (t : ℕ) → put-lts.Need-add-out (
-  copy-reads.Asked,
-  copy-reads.Learnt,
-  after-reads.Asked,
-  after-reads.Learnt,
-  kind-reads.Asked,
-  kind-reads.Learnt,
-  halves-reads.Asked,
-  halves-reads.Learnt,
-  parted-reads.Asked,
-  parted-reads.Learnt,
-  put-below t,
-  put.Post,
-) (put-at t) put.Post
-put-add-put t c =
-    let f = c .before .before .before in
-    let s = f .before .before .before .before .before .before in
-    let a = s .args in
-    let w = now (a .w) in
-    let o = now (a .out) in
-    let here = s .pre .1 in
-    let S = here .spot .set in
-    let two : (D : ℕ → Bool) → _ → 2 ≤ kindOf (formOf (treeOf (a .k) (paint (a .b) (a .lo) (a .hi) D))) = λ D h. subst (λ (i : ℕ). 2 ≤ i) (f .before .kind .ensures ∙ ap kindOf (f .before .before .after .ensures D h)) (f .if2 .left) in
-    let deep = laws.mixed-deep (a .k) (paint (a .b) (a .lo) (a .hi) S) (two S (here .spot .laid)) in
-    omega (arith, laws.some-room w (a .at .0) (a .n) (a .k) (a .span) (a .lo) (a .hi) (a .b) (length o) (a .to .0) here, s .good)
+  add-first : put-lts.Need-add-t27 (calls t) (put-at t) put.Post
+  add-first c =
+      let s = c .before .before .before .before .before .before .before .before in
+      omega (arith, laws.some-room (s .pre .1), s .good)
 
-put-put-requires : (t : ℕ) → put-lts.Need-put-requires (
-  copy-reads.Asked,
-  copy-reads.Learnt,
-  after-reads.Asked,
-  after-reads.Learnt,
-  kind-reads.Asked,
-  kind-reads.Learnt,
-  halves-reads.Asked,
-  halves-reads.Learnt,
-  parted-reads.Asked,
-  parted-reads.Learnt,
-  put-below t,
-  put.Post,
-) (put-at t) put.Post
-put-put-requires t c κs =
-    let f = c .before .before .before in
-    let s = f .before .before .before .before .before .before in
-    let a = s .args in
-    let w = now (a .w) in
-    let o = now (a .out) in
-    let here = s .pre .1 in
-    let S = here .spot .set in
-    let two : (D : ℕ → Bool) → _ → 2 ≤ kindOf (formOf (treeOf (a .k) (paint (a .b) (a .lo) (a .hi) D))) = λ D h. subst (λ (i : ℕ). 2 ≤ i) (f .before .kind .ensures ∙ ap kindOf (f .before .before .after .ensures D h)) (f .if2 .left) in
-    let deep = laws.mixed-deep (a .k) (paint (a .b) (a .lo) (a .hi) S) (two S (here .spot .laid)) in
-    let g = c .before in
-    let h = g .before .halves .result in
-    let r = g .parted .result in
-    (omega (arith, s .pre .0), laws.left-fill w (a .at .0) (a .n) (a .k) (a .span) (a .lo) (a .hi) (a .b) (length o) (a .to .0) here deep (h .lp .0) (h .ln) (h .rp .0) (h .rn) (g .before .halves .ensures) (r .llo) (r .lhi) (r .rlo) (r .rhi) (g .parted .ensures) (two S (here .spot .laid)))
+  -- the descent to the halves
+  down :
+      (c : put-lts.After-parted (calls t) (put-at t) put.Post) →
+      let s = c .before .before .before .before .before .before .before .before in
+      let h = c .before .halves .result in
+      let r = c .parted .result in
+      alaws.Down (s .pre .1 .spot) (s .args .lo) (h .lp .0) (h .ln) (h .rp .0) (h .rn) (r .llo) (r .lhi) (r .rlo) (r .rhi)
+  down c = record { deep = deep (c .before .before); halved = c .before .halves .ensures; cut = c .parted .ensures }
 
-put-sub-out : (t : ℕ) → put-lts.Need-sub-out (
-  copy-reads.Asked,
-  copy-reads.Learnt,
-  after-reads.Asked,
-  after-reads.Learnt,
-  kind-reads.Asked,
-  kind-reads.Learnt,
-  halves-reads.Asked,
-  halves-reads.Learnt,
-  parted-reads.Asked,
-  parted-reads.Learnt,
-  put-below t,
-  put.Post,
-) (put-at t) put.Post
-put-sub-out t c =
-    let f = c .before .before .before .before .before .before in
-    let s = f .before .before .before .before .before .before in
-    let a = s .args in
-    let w = now (a .w) in
-    let o = now (a .out) in
-    let here = s .pre .1 in
-    let S = here .spot .set in
-    let two : (D : ℕ → Bool) → _ → 2 ≤ kindOf (formOf (treeOf (a .k) (paint (a .b) (a .lo) (a .hi) D))) = λ D h. subst (λ (i : ℕ). 2 ≤ i) (f .before .kind .ensures ∙ ap kindOf (f .before .before .after .ensures D h)) (f .if2 .left) in
-    let deep = laws.mixed-deep (a .k) (paint (a .b) (a .lo) (a .hi) S) (two S (here .spot .laid)) in
-    let g = c .before .before .before .before in
-    let h = g .before .halves .result in
-    let r = g .parted .result in
-    let u = c .before .before .put in
-    let m = alaws.mine w (a .at .0) (a .n) (a .k) (a .span) (a .lo) (a .hi) (here .spot) deep (h .lp .0) (h .ln) (h .rp .0) (h .rn) (g .before .halves .ensures) (r .llo) (r .lhi) (r .rlo) (r .rhi) (g .parted .ensures) in
-    let x = u .ensures S (m .left) in
-    let few = laws.left-few w (a .at .0) (a .n) (a .k) (a .span) (a .lo) (a .hi) (a .b) (length o) (a .to .0) here deep (h .lp .0) (h .ln) (h .rp .0) (h .rn) (g .before .halves .ensures) (r .llo) (r .lhi) (r .rlo) (r .rhi) (g .parted .ensures) (two S (here .spot .laid)) in
-    omega (arith, x .next)
+  sub-put : put-lts.Need-sub-put (calls t) (put-at t) put.Post
+  sub-put c = let d = down c in omega arith
 
-put-add-out : (t : ℕ) → put-lts.Need-add-out-2 (
-  copy-reads.Asked,
-  copy-reads.Learnt,
-  after-reads.Asked,
-  after-reads.Learnt,
-  kind-reads.Asked,
-  kind-reads.Learnt,
-  halves-reads.Asked,
-  halves-reads.Learnt,
-  parted-reads.Asked,
-  parted-reads.Learnt,
-  put-below t,
-  put.Post,
-) (put-at t) put.Post
-put-add-out t c =
-    let f = c .before .before .before .before .before .before in
-    let s = f .before .before .before .before .before .before in
-    let a = s .args in
-    let w = now (a .w) in
-    let o = now (a .out) in
-    let here = s .pre .1 in
-    let S = here .spot .set in
-    let two : (D : ℕ → Bool) → _ → 2 ≤ kindOf (formOf (treeOf (a .k) (paint (a .b) (a .lo) (a .hi) D))) = λ D h. subst (λ (i : ℕ). 2 ≤ i) (f .before .kind .ensures ∙ ap kindOf (f .before .before .after .ensures D h)) (f .if2 .left) in
-    let deep = laws.mixed-deep (a .k) (paint (a .b) (a .lo) (a .hi) S) (two S (here .spot .laid)) in
-    let g = c .before .before .before .before in
-    let h = g .before .halves .result in
-    let r = g .parted .result in
-    let u = c .before .before .put in
-    let m = alaws.mine w (a .at .0) (a .n) (a .k) (a .span) (a .lo) (a .hi) (here .spot) deep (h .lp .0) (h .ln) (h .rp .0) (h .rn) (g .before .halves .ensures) (r .llo) (r .lhi) (r .rlo) (r .rhi) (g .parted .ensures) in
-    let x = u .ensures S (m .left) in
-    let few = laws.left-few w (a .at .0) (a .n) (a .k) (a .span) (a .lo) (a .hi) (a .b) (length o) (a .to .0) here deep (h .lp .0) (h .ln) (h .rp .0) (h .rn) (g .before .halves .ensures) (r .llo) (r .lhi) (r .rlo) (r .rhi) (g .parted .ensures) (two S (here .spot .laid)) in
-    omega (arith, x .next)
+  put-requires : put-lts.Need-put-requires (calls t) (put-at t) put.Post
+  put-requires c κs =
+      let s = c .before .before .before .before .before .before .before .before .before in
+      let d = down (c .before) in
+      (omega (arith, s .pre .0), laws.left-fill (s .pre .1) (two (c .before .before .before)) d)
 
-put-cast-out : (t : ℕ) → put-lts.Need-cast-out (
-  copy-reads.Asked,
-  copy-reads.Learnt,
-  after-reads.Asked,
-  after-reads.Learnt,
-  kind-reads.Asked,
-  kind-reads.Learnt,
-  halves-reads.Asked,
-  halves-reads.Learnt,
-  parted-reads.Asked,
-  parted-reads.Learnt,
-  put-below t,
-  put.Post,
-) (put-at t) put.Post
-put-cast-out t c =
-    let f = c .before .before .before .before .before .before in
-    let s = f .before .before .before .before .before .before in
-    let a = s .args in
-    let w = now (a .w) in
-    let o = now (a .out) in
-    let here = s .pre .1 in
-    let S = here .spot .set in
-    let two : (D : ℕ → Bool) → _ → 2 ≤ kindOf (formOf (treeOf (a .k) (paint (a .b) (a .lo) (a .hi) D))) = λ D h. subst (λ (i : ℕ). 2 ≤ i) (f .before .kind .ensures ∙ ap kindOf (f .before .before .after .ensures D h)) (f .if2 .left) in
-    let deep = laws.mixed-deep (a .k) (paint (a .b) (a .lo) (a .hi) S) (two S (here .spot .laid)) in
-    let g = c .before .before .before .before in
-    let h = g .before .halves .result in
-    let r = g .parted .result in
-    let u = c .before .before .put in
-    let m = alaws.mine w (a .at .0) (a .n) (a .k) (a .span) (a .lo) (a .hi) (here .spot) deep (h .lp .0) (h .ln) (h .rp .0) (h .rn) (g .before .halves .ensures) (r .llo) (r .lhi) (r .rlo) (r .rhi) (g .parted .ensures) in
-    let x = u .ensures S (m .left) in
-    let few = laws.left-few w (a .at .0) (a .n) (a .k) (a .span) (a .lo) (a .hi) (a .b) (length o) (a .to .0) here deep (h .lp .0) (h .ln) (h .rp .0) (h .rn) (g .before .halves .ensures) (r .llo) (r .lhi) (r .rlo) (r .rhi) (g .parted .ensures) (two S (here .spot .laid)) in
-    omega (arith, x .next)
+  put-split-requires : put-lts.Need-put-split-requires (calls t) (put-at t) put.Post
+  put-split-requires c κs =
+      let u = c .before .before .before in
+      let g = u .before .before in
+      laws.split-room (g .before .before .before .before .before .before .before .before .pre .1) (two (g .before .before)) (down g) (u .put .ensures) (u .put .kept .1 .1 .1 .1 .1 .1 .1 .1 .0)
 
-put-mul-out-2 : (t : ℕ) → put-lts.Need-mul-out-2 (
-  copy-reads.Asked,
-  copy-reads.Learnt,
-  after-reads.Asked,
-  after-reads.Learnt,
-  kind-reads.Asked,
-  kind-reads.Learnt,
-  halves-reads.Asked,
-  halves-reads.Learnt,
-  parted-reads.Asked,
-  parted-reads.Learnt,
-  put-below t,
-  put.Post,
-) (put-at t) put.Post
-put-mul-out-2 t c =
-    let f = c .before .before .before .before .before .before in
-    let s = f .before .before .before .before .before .before in
-    let a = s .args in
-    let w = now (a .w) in
-    let o = now (a .out) in
-    let here = s .pre .1 in
-    let S = here .spot .set in
-    let two : (D : ℕ → Bool) → _ → 2 ≤ kindOf (formOf (treeOf (a .k) (paint (a .b) (a .lo) (a .hi) D))) = λ D h. subst (λ (i : ℕ). 2 ≤ i) (f .before .kind .ensures ∙ ap kindOf (f .before .before .after .ensures D h)) (f .if2 .left) in
-    let deep = laws.mixed-deep (a .k) (paint (a .b) (a .lo) (a .hi) S) (two S (here .spot .laid)) in
-    let g = c .before .before .before .before in
-    let h = g .before .halves .result in
-    let r = g .parted .result in
-    let u = c .before .before .put in
-    let m = alaws.mine w (a .at .0) (a .n) (a .k) (a .span) (a .lo) (a .hi) (here .spot) deep (h .lp .0) (h .ln) (h .rp .0) (h .rn) (g .before .halves .ensures) (r .llo) (r .lhi) (r .rlo) (r .rhi) (g .parted .ensures) in
-    let x = u .ensures S (m .left) in
-    let few = laws.left-few w (a .at .0) (a .n) (a .k) (a .span) (a .lo) (a .hi) (a .b) (length o) (a .to .0) here deep (h .lp .0) (h .ln) (h .rp .0) (h .rn) (g .before .halves .ensures) (r .llo) (r .lhi) (r .rlo) (r .rhi) (g .parted .ensures) (two S (here .spot .laid)) in
-    omega (arith, laws.some-room w (a .at .0) (a .n) (a .k) (a .span) (a .lo) (a .hi) (a .b) (length o) (a .to .0) here, s .good)
+  sub-put-2 : put-lts.Need-sub-put-2 (calls t) (put-at t) put.Post
+  sub-put-2 c = let d = down (c .before .before .before .before .before .before .before .before) in omega arith
 
-put-slice-write-out-2 : (t : ℕ) → put-lts.Need-slice-write-out-2 (
-  copy-reads.Asked,
-  copy-reads.Learnt,
-  after-reads.Asked,
-  after-reads.Learnt,
-  kind-reads.Asked,
-  kind-reads.Learnt,
-  halves-reads.Asked,
-  halves-reads.Learnt,
-  parted-reads.Asked,
-  parted-reads.Learnt,
-  put-below t,
-  put.Post,
-) (put-at t) put.Post
-put-slice-write-out-2 t c =
-    let f = c .before .before .before .before .before .before in
-    let s = f .before .before .before .before .before .before in
-    let a = s .args in
-    let w = now (a .w) in
-    let o = now (a .out) in
-    let here = s .pre .1 in
-    let S = here .spot .set in
-    let two : (D : ℕ → Bool) → _ → 2 ≤ kindOf (formOf (treeOf (a .k) (paint (a .b) (a .lo) (a .hi) D))) = λ D h. subst (λ (i : ℕ). 2 ≤ i) (f .before .kind .ensures ∙ ap kindOf (f .before .before .after .ensures D h)) (f .if2 .left) in
-    let deep = laws.mixed-deep (a .k) (paint (a .b) (a .lo) (a .hi) S) (two S (here .spot .laid)) in
-    let g = c .before .before .before .before in
-    let h = g .before .halves .result in
-    let r = g .parted .result in
-    let u = c .before .before .put in
-    let m = alaws.mine w (a .at .0) (a .n) (a .k) (a .span) (a .lo) (a .hi) (here .spot) deep (h .lp .0) (h .ln) (h .rp .0) (h .rn) (g .before .halves .ensures) (r .llo) (r .lhi) (r .rlo) (r .rhi) (g .parted .ensures) in
-    let x = u .ensures S (m .left) in
-    let few = laws.left-few w (a .at .0) (a .n) (a .k) (a .span) (a .lo) (a .hi) (a .b) (length o) (a .to .0) here deep (h .lp .0) (h .ln) (h .rp .0) (h .rn) (g .before .halves .ensures) (r .llo) (r .lhi) (r .rlo) (r .rhi) (g .parted .ensures) (two S (here .spot .laid)) in
-    omega (arith, laws.some-room w (a .at .0) (a .n) (a .k) (a .span) (a .lo) (a .hi) (a .b) (length o) (a .to .0) here, u .kept .1 .1 .1 .1 .1 .1 .1 .1 .0)
+  put-requires-2 : put-lts.Need-put-requires-2 (calls t) (put-at t) put.Post
+  put-requires-2 c κs =
+      let m = c .before .before .before in
+      let u = m .before .before .before .before in
+      let g = u .before .before in
+      let s = g .before .before .before .before .before .before .before .before in
+      let d = down g in
+      (omega (arith, s .pre .0), laws.right-fill (s .pre .1) (two (g .before .before)) d (u .put .ensures) (u .put .kept .1 .1 .1 .1 .1 .1 .1 .1 .0) (m .put-split .ensures))
 
-put-sub-put-2 : (t : ℕ) → put-lts.Need-sub-put-2 (
-  copy-reads.Asked,
-  copy-reads.Learnt,
-  after-reads.Asked,
-  after-reads.Learnt,
-  kind-reads.Asked,
-  kind-reads.Learnt,
-  halves-reads.Asked,
-  halves-reads.Learnt,
-  parted-reads.Asked,
-  parted-reads.Learnt,
-  put-below t,
-  put.Post,
-) (put-at t) put.Post
-put-sub-put-2 t c =
-    let f = c .before .before .before .before .before .before in
-    let s = f .before .before .before .before .before .before in
-    let a = s .args in
-    let w = now (a .w) in
-    let o = now (a .out) in
-    let here = s .pre .1 in
-    let S = here .spot .set in
-    let two : (D : ℕ → Bool) → _ → 2 ≤ kindOf (formOf (treeOf (a .k) (paint (a .b) (a .lo) (a .hi) D))) = λ D h. subst (λ (i : ℕ). 2 ≤ i) (f .before .kind .ensures ∙ ap kindOf (f .before .before .after .ensures D h)) (f .if2 .left) in
-    let deep = laws.mixed-deep (a .k) (paint (a .b) (a .lo) (a .hi) S) (two S (here .spot .laid)) in
-    let g = c .before .before .before .before in
-    let h = g .before .halves .result in
-    let r = g .parted .result in
-    let u = c .before .before .put in
-    let m = alaws.mine w (a .at .0) (a .n) (a .k) (a .span) (a .lo) (a .hi) (here .spot) deep (h .lp .0) (h .ln) (h .rp .0) (h .rn) (g .before .halves .ensures) (r .llo) (r .lhi) (r .rlo) (r .rhi) (g .parted .ensures) in
-    let x = u .ensures S (m .left) in
-    let few = laws.left-few w (a .at .0) (a .n) (a .k) (a .span) (a .lo) (a .hi) (a .b) (length o) (a .to .0) here deep (h .lp .0) (h .ln) (h .rp .0) (h .rn) (g .before .halves .ensures) (r .llo) (r .lhi) (r .rlo) (r .rhi) (g .parted .ensures) (two S (here .spot .laid)) in
-    omega arith
+  same-length-3 : put-lts.Need-same-length-3 (calls t) (put-at t) put.Post
+  same-length-3 c =
+      let m = c .before .before .before .before .before .before in
+      let u = m .before .before .before .before in
+      c .before .before .put2 .kept .1 .1 .1 .1 .1 .1 .1 .1 .0 ∙ m .put-split .kept .0 ∙ u .put .kept .1 .1 .1 .1 .1 .1 .1 .1 .0
 
-put-put-requires-2 : (t : ℕ) → put-lts.Need-put-requires-2 (
-  copy-reads.Asked,
-  copy-reads.Learnt,
-  after-reads.Asked,
-  after-reads.Learnt,
-  kind-reads.Asked,
-  kind-reads.Learnt,
-  halves-reads.Asked,
-  halves-reads.Learnt,
-  parted-reads.Asked,
-  parted-reads.Learnt,
-  put-below t,
-  put.Post,
-) (put-at t) put.Post
-put-put-requires-2 t c κs =
-    let f = c .before .before .before .before .before .before .before in
-    let s = f .before .before .before .before .before .before in
-    let a = s .args in
-    let w = now (a .w) in
-    let o = now (a .out) in
-    let here = s .pre .1 in
-    let S = here .spot .set in
-    let two : (D : ℕ → Bool) → _ → 2 ≤ kindOf (formOf (treeOf (a .k) (paint (a .b) (a .lo) (a .hi) D))) = λ D h. subst (λ (i : ℕ). 2 ≤ i) (f .before .kind .ensures ∙ ap kindOf (f .before .before .after .ensures D h)) (f .if2 .left) in
-    let deep = laws.mixed-deep (a .k) (paint (a .b) (a .lo) (a .hi) S) (two S (here .spot .laid)) in
-    let g = c .before .before .before .before .before in
-    let h = g .before .halves .result in
-    let r = g .parted .result in
-    let u = c .before .before .before .put in
-    let m = alaws.mine w (a .at .0) (a .n) (a .k) (a .span) (a .lo) (a .hi) (here .spot) deep (h .lp .0) (h .ln) (h .rp .0) (h .rn) (g .before .halves .ensures) (r .llo) (r .lhi) (r .rlo) (r .rhi) (g .parted .ensures) in
-    let x = u .ensures S (m .left) in
-    let few = laws.left-few w (a .at .0) (a .n) (a .k) (a .span) (a .lo) (a .hi) (a .b) (length o) (a .to .0) here deep (h .lp .0) (h .ln) (h .rp .0) (h .rn) (g .before .halves .ensures) (r .llo) (r .lhi) (r .rlo) (r .rhi) (g .parted .ensures) (two S (here .spot .laid)) in
-    (omega (arith, s .pre .0), subst (λ (l : ℕ). Fill w (h .rp .0) (h .rn) (a .k - 1) (a .span / 2) (r .rlo) (r .rhi) (a .b) l (u .result .0)) (sym (length-set (u .last .1 .1 .1 .1 .1 .1 .1 .1 .0) (a .to .0) (u .result .0 - a .to .0 + 1) ∙ u .kept .1 .1 .1 .1 .1 .1 .1 .1 .0)) (laws.right-fill w (a .at .0) (a .n) (a .k) (a .span) (a .lo) (a .hi) (a .b) (length o) (a .to .0) here deep (h .lp .0) (h .ln) (h .rp .0) (h .rn) (g .before .halves .ensures) (r .llo) (r .lhi) (r .rlo) (r .rhi) (g .parted .ensures) (two S (here .spot .laid)) (u .result .0) (x .next)))
-
-put-same-length-3 : (t : ℕ) → put-lts.Need-same-length-3 (
-  copy-reads.Asked,
-  copy-reads.Learnt,
-  after-reads.Asked,
-  after-reads.Learnt,
-  kind-reads.Asked,
-  kind-reads.Learnt,
-  halves-reads.Asked,
-  halves-reads.Learnt,
-  parted-reads.Asked,
-  parted-reads.Learnt,
-  put-below t,
-  put.Post,
-) (put-at t) put.Post
-put-same-length-3 t c =
-    let f = c .before .before .before .before .before .before .before .before .before .before in
-    let s = f .before .before .before .before .before .before in
-    let a = s .args in
-    let u = c .before .before .before .before .before .before .put in
-    c .before .before .put2 .kept .1 .1 .1 .1 .1 .1 .1 .1 .0 ∙ length-set (u .last .1 .1 .1 .1 .1 .1 .1 .1 .0) (a .to .0) (u .result .0 - a .to .0 + 1) ∙ u .kept .1 .1 .1 .1 .1 .1 .1 .1 .0
-
-put-returns-3 : (t : ℕ) → put-lts.Need-returns-3 (
-  copy-reads.Asked,
-  copy-reads.Learnt,
-  after-reads.Asked,
-  after-reads.Learnt,
-  kind-reads.Asked,
-  kind-reads.Learnt,
-  halves-reads.Asked,
-  halves-reads.Learnt,
-  parted-reads.Asked,
-  parted-reads.Learnt,
-  put-below t,
-  put.Post,
-) (put-at t) put.Post
-put-returns-3 t c =
-    let f = c .before .before .before .before .before .before .before .before .before .before in
-    let s = f .before .before .before .before .before .before in
-    let a = s .args in
-    let w = now (a .w) in
-    let o = now (a .out) in
-    let here = s .pre .1 in
-    let S = here .spot .set in
-    let two : (D : ℕ → Bool) → _ → 2 ≤ kindOf (formOf (treeOf (a .k) (paint (a .b) (a .lo) (a .hi) D))) = λ D h. subst (λ (i : ℕ). 2 ≤ i) (f .before .kind .ensures ∙ ap kindOf (f .before .before .after .ensures D h)) (f .if2 .left) in
-    let deep = laws.mixed-deep (a .k) (paint (a .b) (a .lo) (a .hi) S) (two S (here .spot .laid)) in
-    let g = c .before .before .before .before .before .before .before .before in
-    let h = g .before .halves .result in
-    let r = g .parted .result in
-    let u = c .before .before .before .before .before .before .put in
-    λ D at. let v = g .before .halves .ensures D at in laws.node-wrote w (a .at .0) (a .n) (a .k) (a .span) (a .lo) (a .hi) (a .b) (length o) (a .to .0) here deep (h .lp .0) (h .ln) (h .rp .0) (h .rn) (g .before .halves .ensures) (r .llo) (r .lhi) (r .rlo) (r .rhi) (g .parted .ensures) D (two D at) o (u .last .1 .1 .1 .1 .1 .1 .1 .1 .0) _ (u .result .0) (c .before .before .put2 .result .0) (u .ensures D (v .left)) (c .before .before .put2 .ensures (shift (2 ^ (a .k - 1)) D) (v .right))
+  returns-3 : put-lts.Need-returns-3 (calls t) (put-at t) put.Post
+  returns-3 c =
+      let m = c .before .before .before .before .before .before in
+      let u = m .before .before .before .before in
+      let g = u .before .before in
+      laws.node-wrote (g .before .before .before .before .before .before .before .before .pre .1) (two (g .before .before)) (down g) (u .put .ensures) (u .put .kept .1 .1 .1 .1 .1 .1 .1 .1 .0) (m .put-split .ensures) (c .before .before .put2 .ensures)
 
 pub +put-spec : {M : Type 1} → statement M
-+put-spec = close μ-put λ t. put-lts.spec (
-  copy-reads.Asked,
-  copy-reads.Learnt,
-  after-reads.Asked,
-  after-reads.Learnt,
-  kind-reads.Asked,
-  kind-reads.Learnt,
-  halves-reads.Asked,
-  halves-reads.Learnt,
-  parted-reads.Asked,
-  parted-reads.Learnt,
-  put-below t,
-  put.Post,
-)
++put-spec =
+    close
+    μ-put
+    λ t. put-lts.spec
+    (calls t)
     (put-at t)
     put.Post
-    (put-copy-requires t)
-    (put-add-result t)
-    (put-same-length t)
-    (put-returns t)
-    (put-after-requires t)
-    (put-kind-requires t)
-    (put-mul-out t)
-    (put-slice-write-out t)
-    (put-add-result-2 t)
-    (put-same-length-2 t)
-    (put-returns-2 t)
-    (put-halves-requires t)
-    (put-parted-requires t)
-    (put-sub-put t)
-    (put-add-put t)
-    (put-put-requires t)
-    (put-sub-out t)
-    (put-add-out t)
-    (put-cast-out t)
-    (put-mul-out-2 t)
-    (put-slice-write-out-2 t)
-    (put-sub-put-2 t)
-    (put-put-requires-2 t)
-    (put-same-length-3 t)
-    (put-returns-3 t)
+    (copy-requires t)
+    (add-after t)
+    (same-length t)
+    (returns t)
+    (after-requires t)
+    (kind-requires t)
+    (put-leaf-requires t)
+    (same-length-2 t)
+    (returns-2 t)
+    (halves-requires t)
+    (parted-requires t)
+    (add-first t)
+    (sub-put t)
+    (put-requires t)
+    (put-split-requires t)
+    (sub-put-2 t)
+    (put-requires-2 t)
+    (same-length-3 t)
+    (returns-3 t)

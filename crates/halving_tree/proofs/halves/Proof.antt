@@ -1,58 +1,31 @@
-use Rattle.halving_tree.specs.Tree.{treeOf}
-use Rattle.halving_tree.proofs.Laws as base
+-- `halves` meets its contract. Assumes nothing.
 use Rattle.halving_tree.proofs.FormLaws as laws
-use denote.Ref.{now}
 use native.Mathlib.Omega.{arith}
-use borrow.Author.Needs.{needs}
 use borrow.Author.Needs.{needs}
 use Rattle.halving_tree.proofs.halves.Statement.{statement}
 use Rattle.halving_tree.proofs.halves.Tie as tie
 
 mul-v : tie.Need-mul-v
-mul-v c =
-    let s = c in
-    let a = s .args in
-    let w = now (a .w) in
-    let here = s .pre in
-    omega (arith, base.at-in w (a .at .0) (treeOf (a .k) (here .set)) (here .laid))
+mul-v c = omega (arith, laws.sub-in (c .pre))
 
 shared-slice-read-v : tie.Need-shared-slice-read-v
-shared-slice-read-v c =
-    let s = c .before in
-    let a = s .args in
-    let w = now (a .w) in
-    let here = s .pre in
-    omega (arith, base.at-in w (a .at .0) (treeOf (a .k) (here .set)) (here .laid))
+shared-slice-read-v c = omega (arith, laws.sub-in (c .before .pre))
 
 cast-v : tie.Need-cast-v
-cast-v c =
-    let s = c .before in
-    let a = s .args in
-    omega (arith, c .shared-slice-known .given (a .at .0))
+cast-v c = omega (arith, c .shared-slice-known .given (c .before .args .at .0))
 
 returns : tie.Need-returns
-returns c =
-    let s = c .before .before in
-    let a = s .args in
-    let w = now (a .w) in
-    let here = s .pre in
-    laws.halved-leaf w (a .at .0) (a .n) (a .k) here (c .if1 .taken)
+returns c = laws.halved-leaf (c .before .before .pre) (c .if1 .taken)
 
 add-t6 : tie.Need-add-t7
 add-t6 c =
     let s = c .before .before in
-    let a = s .args in
-    let w = now (a .w) in
-    let here = s .pre in
-    omega (arith, laws.node-room w (a .at .0) (a .n) (a .k) here (c .if1 .left), base.at-in w (a .at .0) (treeOf (a .k) (here .set)) (here .laid), s .good .0 .0)
+    omega (arith, laws.node-room (s .pre) (c .if1 .left), laws.sub-in (s .pre), s .good .0 .0)
 
 add-t11 : tie.Need-add-t13
 add-t11 c =
     let s = c .before .before in
-    let a = s .args in
-    let w = now (a .w) in
-    let here = s .pre in
-    omega (arith, laws.node-room w (a .at .0) (a .n) (a .k) here (c .if1 .left), base.at-in w (a .at .0) (treeOf (a .k) (here .set)) (here .laid), s .good .0 .0)
+    omega (arith, laws.node-room (s .pre) (c .if1 .left), laws.sub-in (s .pre), s .good .0 .0)
 
 sub-t12 : tie.Need-sub-t14
 sub-t12 c = search needs
@@ -60,26 +33,15 @@ sub-t12 c = search needs
 add-t13 : tie.Need-add-t16
 add-t13 c =
     let s = c .before .before in
-    let a = s .args in
-    let w = now (a .w) in
-    let here = s .pre in
-    omega (arith, laws.node-room w (a .at .0) (a .n) (a .k) here (c .if1 .left), base.at-in w (a .at .0) (treeOf (a .k) (here .set)) (here .laid), s .good .0 .0)
+    omega (arith, laws.node-room (s .pre) (c .if1 .left), laws.sub-in (s .pre), s .good .0 .0)
 
 sub-t14 : tie.Need-sub-t17
 sub-t14 c =
     let s = c .before .before in
-    let a = s .args in
-    let w = now (a .w) in
-    let here = s .pre in
-    omega (arith, laws.node-room w (a .at .0) (a .n) (a .k) here (c .if1 .left), base.at-in w (a .at .0) (treeOf (a .k) (here .set)) (here .laid), s .good .0 .0)
+    omega (arith, laws.node-room (s .pre) (c .if1 .left), laws.sub-in (s .pre), s .good .0 .0)
 
 returns-2 : tie.Need-returns-2
-returns-2 c =
-    let s = c .before .before in
-    let a = s .args in
-    let w = now (a .w) in
-    let here = s .pre in
-    laws.halved-node w (a .at .0) (a .n) (a .k) here (c .if1 .left)
+returns-2 c = laws.halved-node (c .before .before .pre) (c .if1 .left)
 
 pub halves-spec : {M : Type 1} → statement M
 halves-spec =

@@ -2,7 +2,6 @@ use Rattle.halving_tree.specs.loops.Form.{splitsOf, joinForm}
 use mathlib.Core.Path.{ap, sym, ap₂}
 use native.Mathlib.Omega.{arith}
 use borrow.Author.Needs.{needs}
-use borrow.Author.Needs.{needs}
 use Rattle.halving_tree.proofs.joined.Statement.{statement}
 use Rattle.halving_tree.proofs.joined.Tie as tie
 

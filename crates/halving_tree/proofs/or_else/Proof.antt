@@ -1,7 +1,6 @@
 use Rattle.halving_tree.specs.loops.Found.{orElse}
 use mathlib.Core.Path.{ap, sym}
 use borrow.Author.Needs.{needs}
-use borrow.Author.Needs.{needs}
 use Rattle.halving_tree.proofs.or_else.Statement.{statement}
 use Rattle.halving_tree.proofs.or_else.Tie as tie
 

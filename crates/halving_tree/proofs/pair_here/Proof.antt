@@ -1,7 +1,6 @@
 use Rattle.halving_tree.proofs.ForgetLaws as laws
 use denote.Ref.{now}
 use borrow.Author.Needs.{needs}
-use borrow.Author.Needs.{needs}
 use Rattle.halving_tree.proofs.pair_here.Statement.{statement}
 use Rattle.halving_tree.proofs.pair_here.Tie as tie
 

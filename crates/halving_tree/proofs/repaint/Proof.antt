@@ -1,6 +1,5 @@
 -- `repaint` meets its contract. Assumes nothing.
 use mathlib.Core.Path.{refl}
-use denote.Ref.{now}
 use Rattle.halving_tree.proofs.RepaintLaws as laws
 use borrow.Author.Needs.{needs}
 use Rattle.halving_tree.proofs.repaint.Statement.{statement}
@@ -10,10 +9,7 @@ slice-aggregate-copy : tie.Need-slice-aggregate-copy
 slice-aggregate-copy c = search needs
 
 copy-requires : tie.Need-copy-requires
-copy-requires c κs =
-    let s = c .before .before .before in
-    let w = now (s .args .w) in
-    laws.copy-room w (s .args .n) (s .args .levels) (s .args .span) (s .args .lo) (s .args .hi) (s .args .b) (s .pre)
+copy-requires c κs = laws.copy-room (c .before .before .before .pre)
 
 slice-aggregate-put : tie.Need-slice-aggregate-put
 slice-aggregate-put c = search needs
@@ -21,10 +17,7 @@ slice-aggregate-put c = search needs
 put-requires : tie.Need-put-requires
 put-requires c κs =
     let s = c .before .before .before .before .before .before .before in
-    let w = now (s .args .w) in
-    let cp = c .before .before .before .copy in
-    let old = cp .last .1 .1 .1 .0 in
-    laws.put-fill w (s .args .n) (s .args .levels) (s .args .span) (s .args .lo) (s .args .hi) (s .args .b) (s .pre) old (laws.copied w (s .args .n) (s .args .levels) (s .args .span) (s .args .lo) (s .args .hi) (s .args .b) (s .pre) _ old refl (cp .ensures) (s .pre .fill .spot .set) (s .pre .fill .spot .laid))
+    laws.put-fill (s .pre) (laws.copied (s .pre) _ refl (c .before .before .before .copy .ensures))
 
 same-length : tie.Need-same-length
 same-length c = search needs
@@ -32,10 +25,7 @@ same-length c = search needs
 returns : tie.Need-returns
 returns c =
     let s = c .before .before .before .before .before .before .before .before .before .before in
-    let w = now (s .args .w) in
-    let cp = c .before .before .before .before .before .before .copy in
-    let old = cp .last .1 .1 .1 .0 in
-    λ D h. c .before .before .put .ensures D (laws.copied w (s .args .n) (s .args .levels) (s .args .span) (s .args .lo) (s .args .hi) (s .args .b) (s .pre) _ old refl (cp .ensures) D h) .list
+    λ D h. c .before .before .put .ensures D (laws.copied (s .pre) _ refl (c .before .before .before .before .before .before .copy .ensures) D h) .list
 
 pub repaint-spec : {M : Type 1} → statement M
 repaint-spec =

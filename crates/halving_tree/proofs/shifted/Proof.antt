@@ -2,7 +2,6 @@ use Rattle.halving_tree.specs.loops.Found.{moved, Below}
 use native.Mathlib.Omega.{arith}
 use mathlib.Core.Path.{ap, sym, subst}
 use borrow.Author.Needs.{needs}
-use borrow.Author.Needs.{needs}
 use Rattle.halving_tree.proofs.shifted.Statement.{statement}
 use Rattle.halving_tree.proofs.shifted.Tie as tie
 
