@@ -9,7 +9,7 @@ use lib.Dec.{ltb, eqb}
 use lib.IntN.{ℤ, pos}
 use lib.ListN.{length}
 use lib.Pow.{pow-mono}
-use borrow.Author.Tests.{ltb-false, leb-false, le-ltb, lt-leb}
+use borrow.Author.Tests.{eqb-true, eqb-false, ltb-false, leb-false, le-ltb, lt-leb}
 use Rattle.words.specs.Lists.{after}
 use Rattle.words.specs.Numbers.{numbered}
 use Rattle.bins.specs.Bins.{readings}
@@ -30,10 +30,9 @@ use Rattle.range_filter.specs.declared.Reading.{Reading}
 use Rattle.range_filter.specs.declared.Reading.the-variants as reading
 use Rattle.range_filter.specs.declared.Meaning.{Meaning}
 use Rattle.range_filter.proofs.Decide.{decide}
-use Rattle.range_filter.proofs.Only.{unchanged}
 use Rattle.guarded_search.specs.Guarded.{keys, some-in, gap-low, gap-high, gap-learnt, Result, result, guarded}
 use Rattle.guarded_search.specs.Promise.{guard-number, guard-room, of-index, guard-answer, Guards}
-use Rattle.guarded_search.specs.loops.Steps.{narrow-all, widest, taught-outcome, missed-outcome, Looks, Missed, Sought}
+use Rattle.guarded_search.specs.loops.Steps.{narrow-all, widest, taught-outcome, missed-outcome, lists-nothing, answer-of, Looks, Missed, Sought}
 use Rattle.guarded_search.specs.declared.Outcome.{Outcome}
 use Rattle.guarded_search.specs.declared.Outcome.the-variants.{Denied, Found, Learnt, NotLearnt}
 use Rattle.guarded_search.specs.declared.GuardAnswer.{GuardAnswer}
@@ -240,15 +239,6 @@ module _ {w : List ℕ} {lo hi : ℕ} (l : Looks w lo hi) where
 
 -- ---- a look
 
--- the range search's answer, with what became of it
-abbrev pub answer-of : SearchAnswer → Outcome → GuardAnswer
-answer-of (searching.Done n s w c) o = guard.Done o n s w c
-answer-of searching.TooLong o = guard.TooLong
-answer-of searching.BadBorders o = guard.BadBorders
-answer-of searching.NoIndex o = guard.NoIndex
-answer-of searching.LowAboveHigh o = guard.LowAboveHigh
-answer-of (searching.Short n) o = guard.Short n
-
 answer-number : (x : SearchAnswer) (o : Outcome) → guard-number (answer-of x o) ≡ numbered (search-number x)
 answer-number (searching.Done n s w c) o = refl
 answer-number searching.TooLong o = refl
@@ -327,7 +317,10 @@ module _ {w : List ℕ} {lo hi : ℕ} (l : Looks w lo hi) {col bs : List ℤ} {i
   searched-as : x ≡ by-check (checked-answer readings col bs is ds) (search-room found (length rows))
   searched-as = p .answers ∙ search-checked readings col bs is ds (pos lo) (pos hi) (length rows) ∙ ap (λ (b : Bool). by-check (checked-answer readings col bs is ds) (cond b searching.LowAboveHigh (search-room found (length rows)))) (le-ltb hi lo (l .order))
 
-  pub sought-by : (r : GuardAnswer) (w′ : List ℕ) → ((m : Memory) → Filter w m → (r ≡ answer-of x (guarded readings m bs ds is col lo hi .outcome)) × (w′ ≡ wordsAfter (guard-number r) w (guarded readings m bs ds is col lo hi .memory))) → Sought w col bs is ds lo hi rows r w′ rows′
+  row-count : (n s e c : ℕ) → x ≡ searching.Done n s e c → n ≡ length (found .ids)
+  row-count n s e c is-done = done-count (checked-answer readings col bs is ds) found (length rows) n s e c (sym is-done ∙ searched-as)
+
+  sought-by : (r : GuardAnswer) (w′ : List ℕ) → ((m : Memory) → Filter w m → (r ≡ answer-of x (guarded readings m bs ds is col lo hi .outcome)) × (w′ ≡ wordsAfter (guard-number r) w (guarded readings m bs ds is col lo hi .memory))) → Sought w col bs is ds lo hi rows r w′ rows′
   sought-by r w′ s = record { answers = says; words = λ m f. s m f .1; rows-after = lists }
     where
       is-found : (m : Memory) → Filter w m → guarded readings m bs ds is col lo hi .answer ≡ found
@@ -343,22 +336,31 @@ module _ {w : List ℕ} {lo hi : ℕ} (l : Looks w lo hi) {col bs : List ℤ} {i
           let o : Outcome = guarded readings m bs ds is col lo hi .outcome in
           p .rows-after ∙ sym (ap₂ (λ (n : ℕ) (a : Answer). after n (a .ids) rows) (ap guard-number (s m f .0) ∙ answer-number x o) (is-found m f))
 
-  -- refused
-  pub sought-refused : (r : GuardAnswer) → ((o : Outcome) → r ≡ answer-of x o) → (guard-number r ≡ 0 → ⊥) → Sought w col bs is ds lo hi rows r w rows′
-  sought-refused r s ne = sought-by r w (λ m f. (s (guarded readings m bs ds is col lo hi .outcome), sym (unchanged (guard-number r) w (guarded readings m bs ds is col lo hi .memory) ne)))
+  -- refused, or rows listed: nothing is learnt
+  pub sought-left : lists-nothing x ≡ false → (r : GuardAnswer) → r ≡ answer-of x Found → Sought w col bs is ds lo hi rows r w rows′
+  sought-left some r e = sought-by r w (λ m f. rw e (go m f x refl some))
+    where
+      go : (m : Memory) → Filter w m → (y : SearchAnswer) → x ≡ y → lists-nothing y ≡ false → (answer-of y Found ≡ answer-of y (guarded readings m bs ds is col lo hi .outcome)) × (w ≡ wordsAfter (guard-number (answer-of y Found)) w (guarded readings m bs ds is col lo hi .memory))
+      go m f (searching.Done n s e c) d some =
+          let ne = eqb-false n 0 some in
+          let z = look-found col bs is ds lo hi (length rows) m (l .not-all m f) (let k = row-count n s e c d in omega arith) in
+          (sym (ap (λ (r : Result). guard.Done (r .outcome) n s e c) z), words-same 0 w m f ∙ sym (ap (λ (r : Result). wordsAfter 0 w (r .memory)) z))
+      go m f searching.TooLong d some = (refl, refl)
+      go m f searching.BadBorders d some = (refl, refl)
+      go m f searching.NoIndex d some = (refl, refl)
+      go m f searching.LowAboveHigh d some = (refl, refl)
+      go m f (searching.Short n) d some = (refl, refl)
 
-  module _ (n s e c : ℕ) (is-done : x ≡ searching.Done n s e c) where
-    row-count : n ≡ length (found .ids)
-    row-count = done-count (checked-answer readings col bs is ds) found (length rows) n s e c (sym is-done ∙ searched-as)
-
-    -- rows found
-    pub sought-found : (n ≡ 0 → ⊥) → Sought w col bs is ds lo hi rows (guard.Done Found n s e c) w rows′
-    sought-found ne = sought-by (guard.Done Found n s e c) w (λ m f.
-        let z = look-found col bs is ds lo hi (length rows) m (l .not-all m f) (let k = row-count in omega arith) in
-        (sym (ap₂ answer-of is-done (ap (λ (r : Result). r .outcome) z)), words-same 0 w m f ∙ sym (ap (λ (r : Result). wordsAfter 0 w (r .memory)) z)))
-
-    -- nothing found
-    pub sought-missed : n ≡ 0 → (o : Outcome) (w′ : List ℕ) → Missed w col lo hi o w′ → Sought w col bs is ds lo hi rows (guard.Done o n s e c) w′ rows′
-    sought-missed none o w′ q = sought-by (guard.Done o n s e c) w′ (λ m f.
-        let z = look-missed col bs is ds lo hi (length rows) m (l .not-all m f) (sym row-count ∙ none) in
-        (ap (λ (y : Outcome). guard.Done y n s e c) (q .answers m f) ∙ sym (ap₂ answer-of is-done (z .0)), q .words m f ∙ sym (ap (λ (y : Memory). wordsAfter 0 w y) (z .1))))
+  -- nothing listed
+  pub sought-missed : lists-nothing x ≡ true → (o : Outcome) (w′ : List ℕ) → Missed w col lo hi o w′ → (r : GuardAnswer) → r ≡ answer-of x o → Sought w col bs is ds lo hi rows r w′ rows′
+  sought-missed none o w′ q r e = sought-by r w′ (λ m f. rw e (go m f x refl none))
+    where
+      go : (m : Memory) → Filter w m → (y : SearchAnswer) → x ≡ y → lists-nothing y ≡ true → (answer-of y o ≡ answer-of y (guarded readings m bs ds is col lo hi .outcome)) × (w′ ≡ wordsAfter (guard-number (answer-of y o)) w (guarded readings m bs ds is col lo hi .memory))
+      go m f (searching.Done n s e c) d none =
+          let z = look-missed col bs is ds lo hi (length rows) m (l .not-all m f) (sym (row-count n s e c d) ∙ eqb-true n 0 none) in
+          (ap (λ (y : Outcome). guard.Done y n s e c) (q .answers m f ∙ sym (z .0)), q .words m f ∙ sym (ap (λ (y : Memory). wordsAfter 0 w y) (z .1)))
+      go m f searching.TooLong d none = absurd (not-both false none refl)
+      go m f searching.BadBorders d none = absurd (not-both false none refl)
+      go m f searching.NoIndex d none = absurd (not-both false none refl)
+      go m f searching.LowAboveHigh d none = absurd (not-both false none refl)
+      go m f (searching.Short n) d none = absurd (not-both false none refl)

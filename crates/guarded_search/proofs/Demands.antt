@@ -8,7 +8,7 @@ use lib.Dec.{lit<}
 use lib.IntN.{ℤ, pos}
 use lib.ListN.{length, take}
 use lib.Signed.{ltZ}
-use Rattle.words.specs.Numbers.{numbered}
+use Rattle.words.specs.Numbers.{numbered, no-filter}
 use Rattle.words.specs.Lists.{different}
 use Rattle.bins.specs.Bins.{readings, InKind}
 use Rattle.run_search.specs.Search.{search-by, scan}
@@ -23,25 +23,30 @@ use Rattle.column_index.proofs.BuiltLaws.{built-scan}
 use Rattle.column_index.proofs.MadeLaws.{builds-all, searches-built}
 use Rattle.column_index.proofs.PromiseLaws.{builds-keeps, packs-keeps, unpacks-keeps, searches-keeps}
 use Rattle.range_filter.specs.Calls.{freshMemory}
-use Rattle.range_filter.specs.Promise.{Fresh, madeNumber, Ask, Learn, learntNumber, Arrive, arrivedNumber, Forget, forgotNumber}
+use Rattle.range_filter.specs.Promise.{Fresh, madeNumber, Ask, askedNumber, Learn, learntNumber, Arrive, arrivedNumber, Depart, departedNumber, Forget, forgotNumber, Read, readingNumber}
 use Rattle.range_filter.specs.History.{NoneIn}
 use Rattle.range_filter.specs.declared.Made.{Made}
+use Rattle.range_filter.specs.declared.Asked.{Asked}
 use Rattle.range_filter.specs.declared.Asked.the-variants as asked
 use Rattle.range_filter.specs.declared.Learnt.{Learnt}
 use Rattle.range_filter.specs.declared.Arrived.{Arrived}
+use Rattle.range_filter.specs.declared.Departed.{Departed}
 use Rattle.range_filter.specs.declared.Forgot.{Forgot}
+use Rattle.range_filter.specs.declared.Reading.{Reading}
 use Rattle.range_filter.proofs.Keeps.{made-filter}
+use Rattle.range_filter.proofs.Never.{ask-not-8, learn-not-8, arrive-not-8, depart-not-8, forget-not-8, read-not-8}
 use Rattle.range_filter.proofs.Only.{fresh-refused, learn-refused, arrive-refused, forget-refused}
 use Rattle.guarded_search.specs.Guarded.{keys}
 use Rattle.guarded_search.specs.Promise.{guard-number, Guards}
 use Rattle.guarded_search.specs.Searching.{Turn, Searching, Few-wasted, All-exact}
-use Rattle.guarded_search.specs.History.{History}
+use Rattle.guarded_search.specs.History.{Left-with-both, History}
 use Rattle.guarded_search.specs.declared.Outcome.the-variants.{Denied}
 use Rattle.guarded_search.specs.declared.GuardAnswer.{GuardAnswer}
 use Rattle.guarded_search.specs.declared.GuardAnswer.the-variants as guard
 use Rattle.guarded_search.proofs.Bounds.{fresh-calm, at-first}
 use Rattle.guarded_search.proofs.Bounded.{State, bounded}
 use Rattle.guarded_search.proofs.Exact.{exact}
+use Rattle.guarded_search.proofs.Never.{left-filter, search-not-8}
 use Rattle.guarded_search.proofs.Only.{guards-refused}
 use Rattle.guarded_search.proofs.Sound.{denied-empty, search-denied-empty}
 
@@ -78,6 +83,29 @@ demand-1-forget p ne = forget-refused p ne
 
 pub demand-1-guarded : {w w′ rows rows′ : List ℕ} {col bs : List ℤ} {is ds : List ℕ} {lo hi : ℕ} {r : GuardAnswer} → Guards w col bs is ds lo hi rows r w′ rows′ → (guard-number r ≡ 0 → ⊥) → (w′ ≡ w) × (rows′ ≡ rows)
 demand-1-guarded p ne = guards-refused p ne
+
+-- words left by a fresh filter and any calls, searches with both among them, are never refused with 8
+module _ {w : List ℕ} (h : Left-with-both w) where
+  pub never-8-ask : {r : Asked} (lo hi : ℕ) → Ask w lo hi r → askedNumber r ≡ numbered no-filter → ⊥
+  never-8-ask lo hi p = ask-not-8 (left-filter h .0) (left-filter h .1) lo hi p
+
+  pub never-8-learn : {w′ : List ℕ} {r : Learnt} (lo hi : ℕ) → Learn w lo hi r w′ → learntNumber r ≡ numbered no-filter → ⊥
+  never-8-learn lo hi p = learn-not-8 (left-filter h .0) (left-filter h .1) lo hi p
+
+  pub never-8-arrival : {w′ : List ℕ} {r : Arrived} (x : ℕ) → Arrive w x r w′ → arrivedNumber r ≡ numbered no-filter → ⊥
+  never-8-arrival x p = arrive-not-8 (left-filter h .0) (left-filter h .1) x p
+
+  pub never-8-departure : {r : Departed} (x : ℕ) → Depart w x r → departedNumber r ≡ numbered no-filter → ⊥
+  never-8-departure x p = depart-not-8 (left-filter h .0) (left-filter h .1) x p
+
+  pub never-8-forget : {w′ : List ℕ} {r : Forgot} → Forget w r w′ → forgotNumber r ≡ numbered no-filter → ⊥
+  never-8-forget p = forget-not-8 (left-filter h .0) (left-filter h .1) p
+
+  pub never-8-read : {r : Reading} → Read w r → readingNumber r ≡ numbered no-filter → ⊥
+  never-8-read p = read-not-8 (left-filter h .0) (left-filter h .1) p
+
+  pub never-8-guarded : {col bs : List ℤ} {is ds : List ℕ} {lo hi : ℕ} {rows w′ rows′ : List ℕ} {r : GuardAnswer} → Guards w col bs is ds lo hi rows r w′ rows′ → guard-number r ≡ numbered no-filter → ⊥
+  never-8-guarded p = search-not-8 p (left-filter h .0) (left-filter h .1)
 
 -- ---- DEMAND 2
 

@@ -6,6 +6,7 @@ pub mod Only
 pub mod TurnLaws
 pub mod Bounded
 pub mod Sound
+pub mod Never
 pub mod Demands
 pub mod NarrowLaws
 pub mod Exact

@@ -75,8 +75,8 @@ module _ {w : List ℕ} {col bs : List ℤ} {is ds : List ℕ} {lo hi : ℕ} {ro
     pub answers : taught.Done ≡ learnAnswer (low-of k) (high-of k) n
     pub words : w′ ≡ wordsAfter (learntNumber taught.Done) w (learnt n (low-of k) (high-of k))
 
-  in-range : (k a b : ℕ) (n : Memory) → a ≤ b → b < 2 ^ n .levels → tooMany (learnt n a b) ≡ false → taught.Done ≡ learnAnswer a b n
-  in-range k a b n l h t = rw (lt-leb (2 ^ n .levels) a (omega arith), lt-leb (2 ^ n .levels) b h, le-ltb b a l, t)
+  in-range : (a b : ℕ) (n : Memory) → a ≤ b → b < 2 ^ n .levels → tooMany (learnt n a b) ≡ false → taught.Done ≡ learnAnswer a b n
+  in-range a b n l h t = rw (lt-leb (2 ^ n .levels) a (omega arith), lt-leb (2 ^ n .levels) b h, le-ltb b a l, t)
 
   taught-by : (n : Memory) → Filter w n → Taught (n .levels) n
   taught-by n f = go (turned p n f)
@@ -91,7 +91,7 @@ module _ {w : List ℕ} {col bs : List ℤ} {is ds : List ℕ} {lo hi : ℕ} {ro
           let s = around .starts in
           let b = around .reaches in
           let q = around .of-keys in
-          record { around = around; key = l .key; answers = in-range (n .levels) (low-of (n .levels)) (high-of (n .levels)) n (omega arith) (omega arith) t; words = e }
+          record { around = around; key = l .key; answers = in-range (low-of (n .levels)) (high-of (n .levels)) n (omega arith) (omega arith) t; words = e }
 
   module _ (m : Memory) (f : Filter w m) where
     -- any other meaning of the words has the same levels, so the same gap

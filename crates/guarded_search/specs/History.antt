@@ -1,10 +1,10 @@
--- Demand 2: a history of samples and calls, the search with both among them. Each step is a call by its own promise. Assumes nothing.
+-- Demands 1 and 2: words left by a fresh filter and any calls, and a history of samples and calls, the search with both among them. Each step is a call by its own promise. Assumes nothing.
 use mathlib.Core.Path.{_≡_}
 use mathlib.Core.List.{List, [], _∷_, List·Memᴰ}
 use Prim.Native.Nat.{ℕ}
 use lib.IntN.{ℤ, pos}
 use Rattle.range_filter.specs.Promise.{Fresh, madeNumber, Learn, learntNumber, Arrive, Depart, Forget}
-use Rattle.range_filter.specs.History.{NoneIn, oneLess}
+use Rattle.range_filter.specs.History.{Call, NoneIn, oneLess}
 use Rattle.range_filter.specs.declared.Made.{Made}
 use Rattle.range_filter.specs.declared.Learnt.{Learnt}
 use Rattle.range_filter.specs.declared.Arrived.{Arrived}
@@ -12,6 +12,12 @@ use Rattle.range_filter.specs.declared.Departed.{Departed}
 use Rattle.range_filter.specs.declared.Forgot.{Forgot}
 use Rattle.guarded_search.specs.Promise.{Guards}
 use Rattle.guarded_search.specs.declared.GuardAnswer.{GuardAnswer}
+
+-- Words left by a fresh filter and any calls, searches with both among them: over any column, with any index, any range and any row space. Any of these calls may be refused.
+pub data Left-with-both : List ℕ → Type 0 where
+  made : {w w′ : List ℕ} {r : Made} (levels room : ℕ) → Fresh levels room w r w′ → madeNumber r ≡ 0 → Left-with-both w′
+  called : {w w′ : List ℕ} → Left-with-both w → Call w w′ → Left-with-both w′
+  searches : {w w′ : List ℕ} {col bs : List ℤ} {is ds : List ℕ} {lo hi : ℕ} {rows rows′ : List ℕ} {r : GuardAnswer} → Left-with-both w → Guards w col bs is ds lo hi rows r w′ rows′ → Left-with-both w′
 
 -- every sample present stands in the column
 abbrev pub Stand : List ℕ → List ℤ → Type 0

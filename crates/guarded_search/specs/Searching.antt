@@ -48,14 +48,14 @@ says-learnt guard.NoIndex = false
 says-learnt (guard.Short n) = false
 
 -- the answer is "empty and not learnt"
-abbrev pub wastes : Outcome → Bool
-wastes Denied = false
-wastes Found = false
-wastes Learnt = false
-wastes NotLearnt = true
+abbrev pub learns-not : Outcome → Bool
+learns-not Denied = false
+learns-not Found = false
+learns-not Learnt = false
+learns-not NotLearnt = true
 
 abbrev pub says-not-learnt : GuardAnswer → Bool
-says-not-learnt (guard.Done o n s w c) = wastes o
+says-not-learnt (guard.Done o n s w c) = learns-not o
 says-not-learnt guard.NoFilter = false
 says-not-learnt guard.NoKey = false
 says-not-learnt guard.LowAboveHigh = false

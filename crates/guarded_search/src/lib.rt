@@ -11,7 +11,7 @@ ghost use lib.IntN.{pos};
 ghost use Rattle.bins.specs.Bins.{readings};
 ghost use Rattle.column_index.specs.Promise.{checked-answer};
 ghost use Rattle.guarded_search.specs.Promise.{of-index, Guards};
-ghost use Rattle.guarded_search.specs.loops.Steps.{narrow-key, narrow, narrow-all, widest, taught-outcome, Looks, Missed, Sought};
+ghost use Rattle.guarded_search.specs.loops.Steps.{narrow-key, narrow, narrow-all, widest, taught-outcome, lists-nothing, answer-of, Looks, Missed, Sought};
 ghost use Rattle.guarded_search.specs.declared.Outcome.the-variants.{Denied};
 ghost use Rattle.guarded_search.specs.declared.GuardAnswer.the-variants.{Done};
 
@@ -178,6 +178,45 @@ fn denied(column: &[i32], borders: &[i32], imprints: &[u64], dictionary: &[u32])
     }
 }
 
+// Whether the range search was done and listed nothing.
+fn lists_nothing(found: SearchAnswer) -> bool
+    ensures { λ r. ⌜ r ≡ lists-nothing found ⌝ }
+{
+    match found {
+        SearchAnswer::Done { rows, .. } => rows == 0,
+        SearchAnswer::TooLong => false,
+        SearchAnswer::BadBorders => false,
+        SearchAnswer::NoIndex => false,
+        SearchAnswer::LowAboveHigh => false,
+        SearchAnswer::Short(_) => false,
+    }
+}
+
+// The range search's answer, with what became of it beside the counts; a refusal says nothing of that.
+fn answer_of(found: SearchAnswer, outcome: Outcome) -> GuardAnswer
+    ensures { λ r. ⌜ r ≡ answer-of found outcome ⌝ }
+{
+    match found {
+        SearchAnswer::TooLong => GuardAnswer::TooLong,
+        SearchAnswer::BadBorders => GuardAnswer::BadBorders,
+        SearchAnswer::NoIndex => GuardAnswer::NoIndex,
+        SearchAnswer::LowAboveHigh => GuardAnswer::LowAboveHigh,
+        SearchAnswer::Short(n) => GuardAnswer::Short(n),
+        SearchAnswer::Done {
+            rows,
+            skipped,
+            whole,
+            compared,
+        } => GuardAnswer::Done {
+            outcome,
+            rows,
+            skipped,
+            whole,
+            compared,
+        },
+    }
+}
+
 // A range that the filter does not deny: the range search runs, and what it finds empty is learnt.
 fn look(
     words: &mut [u32],
@@ -194,37 +233,12 @@ fn look(
 {
     let first = value_of(low.0);
     let last = value_of(high.0);
-    match reading_index::search(column, borders, imprints, dictionary, first, last, rows) {
-        SearchAnswer::TooLong => GuardAnswer::TooLong,
-        SearchAnswer::BadBorders => GuardAnswer::BadBorders,
-        SearchAnswer::NoIndex => GuardAnswer::NoIndex,
-        SearchAnswer::LowAboveHigh => GuardAnswer::LowAboveHigh,
-        SearchAnswer::Short(n) => GuardAnswer::Short(n),
-        SearchAnswer::Done {
-            rows: n,
-            skipped,
-            whole,
-            compared,
-        } => {
-            if n == 0 {
-                let outcome = learn_gap(words, column, low, high);
-                return GuardAnswer::Done {
-                    outcome,
-                    rows: n,
-                    skipped,
-                    whole,
-                    compared,
-                };
-            }
-            GuardAnswer::Done {
-                outcome: Outcome::Found,
-                rows: n,
-                skipped,
-                whole,
-                compared,
-            }
-        }
+    let found = reading_index::search(column, borders, imprints, dictionary, first, last, rows);
+    if lists_nothing(found) {
+        let outcome = learn_gap(words, column, low, high);
+        return answer_of(found, outcome);
     }
+    answer_of(found, Outcome::Found)
 }
 
 // The search of the keys low to high: the filter is asked first.

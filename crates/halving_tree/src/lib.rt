@@ -1,6 +1,6 @@
 // The smallest halving tree of a set of keys, laid out in preorder in lent words: found, asked, measured, rewritten. A filter's tree stands after three words.
 ghost use mathlib.Core.Path.{_≡_};
-ghost use mathlib.Core.Bool.{Bool, true, false};
+ghost use mathlib.Core.Bool.{Bool};
 ghost use Prim.Native.Nat.{ℕ, _+_, _-_, _≤_, _<_};
 ghost use Rattle.halving_tree.specs.Tree.{Tree, leaf, treeOf, paint};
 ghost use Rattle.halving_tree.specs.loops.Place.{At, AllIn, Says, Place, Holds};

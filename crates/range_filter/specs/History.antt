@@ -11,12 +11,16 @@ use Rattle.range_filter.specs.declared.Arrived.{Arrived}
 use Rattle.range_filter.specs.declared.Departed.{Departed}
 use Rattle.range_filter.specs.declared.Forgot.{Forgot}
 
--- Words left by a fresh filter and any calls, refused ones among them. (Ask, departure and read are lent the words for reading alone.)
+-- A call that may change the words, from those before it to those after it: each by its own promise, refused ones among them. (Ask, departure and read are lent the words for reading alone; fresh starts over, or changes nothing.)
+pub data Call : List ℕ → List ℕ → Type 0 where
+  learns : {w w′ : List ℕ} {r : Learnt} (lo hi : ℕ) → Learn w lo hi r w′ → Call w w′
+  arrives : {w w′ : List ℕ} {r : Arrived} (x : ℕ) → Arrive w x r w′ → Call w w′
+  forgets : {w w′ : List ℕ} {r : Forgot} → Forget w r w′ → Call w w′
+
+-- Words left by a fresh filter and any calls.
 pub data Left : List ℕ → Type 0 where
   made : {w w′ : List ℕ} {r : Made} (levels room : ℕ) → Fresh levels room w r w′ → madeNumber r ≡ 0 → Left w′
-  learns : {w w′ : List ℕ} {r : Learnt} (lo hi : ℕ) → Left w → Learn w lo hi r w′ → Left w′
-  arrives : {w w′ : List ℕ} {r : Arrived} (x : ℕ) → Left w → Arrive w x r w′ → Left w′
-  forgets : {w w′ : List ℕ} {r : Forgot} → Left w → Forget w r w′ → Left w′
+  called : {w w′ : List ℕ} → Left w → Call w w′ → Left w′
 
 -- no sample lies in lo to hi
 abbrev pub NoneIn : ℕ → ℕ → List ℕ → Type 0

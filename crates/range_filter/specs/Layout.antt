@@ -5,7 +5,7 @@ use mathlib.Core.List.{List, [], _∷_, _++_}
 use Prim.Native.Nat.{ℕ, _+_, _*_, _^_, _≤_, _<_}
 use lib.ListN.{length}
 use Rattle.halving_tree.specs.Tree.{Tree, treeOf, splits}
-pub use Rattle.halving_tree.specs.Encode.{size, leafWord, encode}
+use Rattle.halving_tree.specs.Encode.{encode}
 
 -- what a filter remembers: its levels, its room, its hand, and the set D of the keys remembered as empty
 pub record Memory : Type 0 where

@@ -3,12 +3,14 @@ use mathlib.Core.Path.{_≡_}
 use mathlib.Core.Bool.{Bool, true, false, cond, _||_}
 use mathlib.Core.List.{List, [], _∷_}
 use Prim.Native.Nat.{ℕ, suc, _-_, _^_, _≤_, _<_, min, max}
-use lib.Dec.{ltb}
+use lib.Dec.{ltb, eqb}
 use lib.IntN.{ℤ, pos, negsuc}
 use lib.ListN.{length}
 use Rattle.words.specs.Lists.{after}
 use Rattle.bins.specs.Bins.{readings}
 use Rattle.column_index.specs.Promise.{checked-answer}
+use Rattle.column_index.specs.declared.SearchAnswer.{SearchAnswer}
+use Rattle.column_index.specs.declared.SearchAnswer.the-variants as searching
 use Rattle.range_filter.specs.Layout.{Memory, Filter}
 use Rattle.range_filter.specs.Calls.{allIn, tooMany}
 use Rattle.range_filter.specs.Promise.{wordsAfter}
@@ -19,6 +21,7 @@ use Rattle.guarded_search.specs.Promise.{guard-number, guard-room, of-in
 use Rattle.guarded_search.specs.declared.Outcome.{Outcome}
 use Rattle.guarded_search.specs.declared.Outcome.the-variants.{Learnt, NotLearnt}
 use Rattle.guarded_search.specs.declared.GuardAnswer.{GuardAnswer}
+use Rattle.guarded_search.specs.declared.GuardAnswer.the-variants as guard
 use Rattle.guarded_search.specs.declared.Gap.{Gap}
 
 -- the gap narrowed by one value of the column; keys are below span
@@ -64,6 +67,24 @@ missed-outcome b = cond b NotLearnt Learnt
 pub record Missed (w : List ℕ) (col : List ℤ) (lo hi : ℕ) (r : Outcome) (w′ : List ℕ) : Type 0 where
   pub answers : (m : Memory) → Filter w m → r ≡ missed-outcome (some-in lo hi (keys (m .levels) col) || tooMany (gap-learnt m lo hi (keys (m .levels) col)))
   pub words : (m : Memory) → Filter w m → w′ ≡ wordsAfter 0 w (cond (some-in lo hi (keys (m .levels) col) || tooMany (gap-learnt m lo hi (keys (m .levels) col))) m (gap-learnt m lo hi (keys (m .levels) col)))
+
+-- the range search was done and listed nothing
+abbrev pub lists-nothing : SearchAnswer → Bool
+lists-nothing (searching.Done n s w c) = eqb n 0
+lists-nothing searching.TooLong = false
+lists-nothing searching.BadBorders = false
+lists-nothing searching.NoIndex = false
+lists-nothing searching.LowAboveHigh = false
+lists-nothing (searching.Short n) = false
+
+-- the range search's answer, with what became of it; a refusal says nothing of that
+abbrev pub answer-of : SearchAnswer → Outcome → GuardAnswer
+answer-of (searching.Done n s w c) o = guard.Done o n s w c
+answer-of searching.TooLong o = guard.TooLong
+answer-of searching.BadBorders o = guard.BadBorders
+answer-of searching.NoIndex o = guard.NoIndex
+answer-of searching.LowAboveHigh o = guard.LowAboveHigh
+answer-of (searching.Short n) o = guard.Short n
 
 -- what a look answers, and filter words and rows afterwards
 pub record Sought (w : List ℕ) (col bs : List ℤ) (is ds : List ℕ) (lo hi : ℕ) (rows : List ℕ) (r : GuardAnswer) (w′ rows′ : List ℕ) : Type 0 where
