@@ -119,16 +119,15 @@ module _ {col bs : List ℤ} {is ds : List ℕ} {low high low′ high′ : ℤ} 
     pub all-below : (i : ℕ) → getD (take n rows′) i 0 < 10000
     all-below i = rw front-is (ids-below col low high few i)
 
-    module _ (lines : ℕ) (of-lines : lines ≡ ceil (length col) 16) where
-      pub six-numbers : (length col < 10000) × (lines < 10000) × (length bs < 10000) × (w < 10000) × (k < 10000) × (s < 10000)
-      six-numbers = let b = six-below col low high few in (b .0, omega (arith, b .1), omega (arith, b .2, ap length eb), omega (arith, b .3, parts .3), omega (arith, b .4, parts .4), omega (arith, b .5, parts .2))
+    pub six-numbers : (length col < 10000) × (length bs < 10000) × (w < 10000) × (k < 10000) × (s < 10000)
+    six-numbers = let b = six-below col low high few in (b .0, omega (arith, b .2, ap length eb), omega (arith, b .3, parts .3), omega (arith, b .4, parts .4), omega (arith, b .5, parts .2))
 
-      pub text-is : found-text (length col) lines (length bs) w k s (take n rows′) ≡ range-text col low high
-      unfolding range-text
-      text-is = (λ j. found-text (length col) (of-lines j) (length (eb j)) (parts .3 j) (parts .4 j) (parts .2 j) (front-is j)) ∙ rw (parts .0)
+    pub text-is : found-text (length col) (ceil (length col) 16) (length bs) w k s (take n rows′) ≡ range-text col low high
+    unfolding range-text
+    text-is = (λ j. found-text (length col) (ceil (length col) 16) (length (eb j)) (parts .3 j) (parts .4 j) (parts .2 j) (front-is j)) ∙ rw (parts .0)
 
-      pub text-room : (out : List ℕ) → 49152 ≤ length out → Room out 0 (found-text (length col) lines (length bs) w k s (take n rows′))
-      text-room out h = omega (arith, ap length text-is, text-short col low high few)
+    pub text-room : (out : List ℕ) → 49152 ≤ length out → Room out 0 (found-text (length col) (ceil (length col) 16) (length bs) w k s (take n rows′))
+    text-room out h = omega (arith, ap length text-is, text-short col low high few)
 
 -- ---- build
 

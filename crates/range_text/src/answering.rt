@@ -8,18 +8,10 @@ use range_input::decode;
 ghost use mathlib.Core.Path.{_≡_};
 ghost use Prim.Native.Nat.{_≤_};
 ghost use lib.ListN.{length};
-ghost use Rattle.words.specs.Lists.{ceil};
 ghost use Rattle.bins.specs.Bins.{readings, borders as borders-of};
 ghost use Rattle.column_index.specs.Index.{built};
 ghost use Rattle.range_text.specs.loops.Puts.{Puts};
 ghost use Rattle.range_text.specs.Text.{range-text, Writes};
-
-fn line_count(rows: usize) -> usize
-    requires { ⌜ rows ≤ 8192 ⌝ }
-    ensures { λ r. ⌜ r ≡ ceil rows 16 ⌝ }
-{
-    (rows + 15) / 16
-}
 
 // The text for a column whose index stands: of the search's refusals only 1 can arise here.
 fn searched_text(
@@ -45,19 +37,15 @@ fn searched_text(
             skipped,
             whole,
             compared,
-        } => {
-            let lines = line_count(column.len());
-            put_found(
-                out,
-                column.len(),
-                lines,
-                borders.len(),
-                whole,
-                compared,
-                skipped,
-                &rows[..n],
-            )
-        }
+        } => put_found(
+            out,
+            column.len(),
+            borders.len(),
+            whole,
+            compared,
+            skipped,
+            &rows[..n],
+        ),
         SearchAnswer::LowAboveHigh => put_refused(out, 1),
         SearchAnswer::TooLong => 0,
         SearchAnswer::BadBorders => 0,

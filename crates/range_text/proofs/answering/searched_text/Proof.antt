@@ -25,39 +25,35 @@ search-requires c κs = search needs
 enum-known-answer : tie.Need-enum-known-answer
 enum-known-answer c = search needs
 
-line-count-requires : tie.Need-line-count-requires
-line-count-requires c κs = search needs
-
 array-share-prefix-rows : tie.Need-array-share-prefix-rows
 array-share-prefix-rows c =
+    let s = c .before .before .before .before .before .before .before .before .before .before in
+    let a = s .args in
+    let f = c .before .before .before .before .before .search in
+    let l = toZ-ofZ w32 (a .low) (s .fits .low) in
+    let h = toZ-ofZ w32 (a .high) (s .fits .high) in
+    let g = c .before .before .answer .given in
+    omega (arith, count-few (s .pre .0 .0) refl (s .pre .1 .0) (s .pre .1 .1 .0) (s .pre .1 .1 .1) l h (f .ensures) (g .0 .0) (g .0 .1 .0) (g .0 .1 .1 .0) (g .0 .1 .1 .1 .0) (g .1), f .kept .1 .1 .1 .1 .1 .1 .0)
+
+slice-aggregate-put-found : tie.Need-slice-aggregate-put-found
+slice-aggregate-put-found c =
     let s = c .before .before .before .before .before .before .before .before .before .before .before in
     let a = s .args in
     let f = c .before .before .before .before .before .before .search in
     let l = toZ-ofZ w32 (a .low) (s .fits .low) in
     let h = toZ-ofZ w32 (a .high) (s .fits .high) in
     let g = c .before .before .before .answer .given in
-    omega (arith, count-few (s .pre .0 .0) refl (s .pre .1 .0) (s .pre .1 .1 .0) (s .pre .1 .1 .1) l h (f .ensures) (g .0 .0) (g .0 .1 .0) (g .0 .1 .1 .0) (g .0 .1 .1 .1 .0) (g .1), f .kept .1 .1 .1 .1 .1 .1 .0)
-
-slice-aggregate-put-found : tie.Need-slice-aggregate-put-found
-slice-aggregate-put-found c =
-    let s = c .before .before .before .before .before .before .before .before .before .before .before .before in
-    let a = s .args in
-    let f = c .before .before .before .before .before .before .before .search in
-    let l = toZ-ofZ w32 (a .low) (s .fits .low) in
-    let h = toZ-ofZ w32 (a .high) (s .fits .high) in
-    let g = c .before .before .before .before .answer .given in
     sym (length-take-le (g .0 .0) (f .last .1 .1 .1 .1 .1 .1 .0) (omega (arith, count-few (s .pre .0 .0) refl (s .pre .1 .0) (s .pre .1 .1 .0) (s .pre .1 .1 .1) l h (f .ensures) (g .0 .0) (g .0 .1 .0) (g .0 .1 .1 .0) (g .0 .1 .1 .1 .0) (g .1), f .kept .1 .1 .1 .1 .1 .1 .0)))
 
 put-found-requires : tie.Need-put-found-requires
 put-found-requires c κs =
-    let s = c .before .before .before .before .before .before .before .before .before .before .before .before in
+    let s = c .before .before .before .before .before .before .before .before .before .before .before in
     let a = s .args in
-    let f = c .before .before .before .before .before .before .before .search in
+    let f = c .before .before .before .before .before .before .search in
     let l = toZ-ofZ w32 (a .low) (s .fits .low) in
     let h = toZ-ofZ w32 (a .high) (s .fits .high) in
-    let g = c .before .before .before .before .answer .given in
-    let k = c .before .before .line-count in
-    (six-numbers (s .pre .0 .0) refl (s .pre .1 .0) (s .pre .1 .1 .0) (s .pre .1 .1 .1) l h (f .ensures) (g .0 .0) (g .0 .1 .0) (g .0 .1 .1 .0) (g .0 .1 .1 .1 .0) (g .1) (k .result) (k .ensures), (all-below (s .pre .0 .0) refl (s .pre .1 .0) (s .pre .1 .1 .0) (s .pre .1 .1 .1) l h (f .ensures) (g .0 .0) (g .0 .1 .0) (g .0 .1 .1 .0) (g .0 .1 .1 .1 .0) (g .1), text-room (s .pre .0 .0) refl (s .pre .1 .0) (s .pre .1 .1 .0) (s .pre .1 .1 .1) l h (f .ensures) (g .0 .0) (g .0 .1 .0) (g .0 .1 .1 .0) (g .0 .1 .1 .1 .0) (g .1) (k .result) (k .ensures) (a .out .now) (s .pre .0 .1)))
+    let g = c .before .before .before .answer .given in
+    (six-numbers (s .pre .0 .0) refl (s .pre .1 .0) (s .pre .1 .1 .0) (s .pre .1 .1 .1) l h (f .ensures) (g .0 .0) (g .0 .1 .0) (g .0 .1 .1 .0) (g .0 .1 .1 .1 .0) (g .1), (all-below (s .pre .0 .0) refl (s .pre .1 .0) (s .pre .1 .1 .0) (s .pre .1 .1 .1) l h (f .ensures) (g .0 .0) (g .0 .1 .0) (g .0 .1 .1 .0) (g .0 .1 .1 .1 .0) (g .1), text-room (s .pre .0 .0) refl (s .pre .1 .0) (s .pre .1 .1 .0) (s .pre .1 .1 .1) l h (f .ensures) (g .0 .0) (g .0 .1 .0) (g .0 .1 .1 .0) (g .0 .1 .1 .1 .0) (g .1) (a .out .now) (s .pre .0 .1)))
 
 enum-told : tie.Need-enum-told
 enum-told c = search needs
@@ -82,14 +78,13 @@ same-length c = search needs
 
 returns : tie.Need-returns
 returns c =
-    let s = c .before .before .before .before .before .before .before .before .before .before .before .before .before .before .before in
+    let s = c .before .before .before .before .before .before .before .before .before .before .before .before .before .before in
     let a = s .args in
-    let f = c .before .before .before .before .before .before .before .before .before .before .search in
+    let f = c .before .before .before .before .before .before .before .before .before .search in
     let l = toZ-ofZ w32 (a .low) (s .fits .low) in
     let h = toZ-ofZ w32 (a .high) (s .fits .high) in
-    let g = c .before .before .before .before .before .before .before .answer .given in
-    let k = c .before .before .before .before .before .line-count in
-    puts-as (range-text (a .column .now) (a .low) (a .high)) (text-is (s .pre .0 .0) refl (s .pre .1 .0) (s .pre .1 .1 .0) (s .pre .1 .1 .1) l h (f .ensures) (g .0 .0) (g .0 .1 .0) (g .0 .1 .1 .0) (g .0 .1 .1 .1 .0) (g .1) (k .result) (k .ensures)) (c .before .before .put-found .ensures)
+    let g = c .before .before .before .before .before .before .answer .given in
+    puts-as (range-text (a .column .now) (a .low) (a .high)) (text-is (s .pre .0 .0) refl (s .pre .1 .0) (s .pre .1 .1 .0) (s .pre .1 .1 .1) l h (f .ensures) (g .0 .0) (g .0 .1 .0) (g .0 .1 .1 .0) (g .0 .1 .1 .1 .0) (g .1)) (c .before .before .put-found .ensures)
 
 same-length-2 : tie.Need-same-length-2
 same-length-2 c = search needs
@@ -146,7 +141,6 @@ searched-text-spec =
     slice-aggregate-search
     search-requires
     enum-known-answer
-    line-count-requires
     array-share-prefix-rows
     slice-aggregate-put-found
     put-found-requires

@@ -1,6 +1,7 @@
 -- `range_text::writing::put_found` meets its contract. Assumes nothing.
 use mathlib.Core.List.{[], _++_}
 use borrow.Author.Needs.{needs}
+use Rattle.words.specs.Lists.{ceil}
 use Rattle.range_text.specs.Text.{three, row-lines, found-text, rows-word, lines-word, borders-word, whole-word, compared-word, skipped-word}
 use Rattle.range_text.proofs.PutsLaws.{room-first, room-then, puts-then}
 use Rattle.range_text.proofs.writing.put_found.Statement.{statement}
@@ -12,12 +13,12 @@ put-size-requires c κs =
     let s = c .before .before .before in
     let a = s .args in
     let o = a .out .now in
-    let u = three rows-word (a .rows) lines-word (a .lines) borders-word (a .borders) in
+    let u = three rows-word (a .rows) lines-word (ceil (a .rows) 16) borders-word (a .borders) in
     let v = three whole-word (a .whole) compared-word (a .compared) skipped-word (a .skipped) in
     let w = row-lines (a .ids .now) in
     let b = s .pre .0 in
     let m = s .pre .1 .1 in
-    (b .0, b .1, b .2, room-first o 0 u v (room-first o 0 (u ++ v) w m))
+    (b .0, b .1, room-first o 0 u v (room-first o 0 (u ++ v) w m))
 
 put-counts-requires : tie.Need-put-counts-requires
 unfolding found-text
@@ -25,12 +26,12 @@ put-counts-requires c κs =
     let s = c .before .before .before .before .before .before .before in
     let a = s .args in
     let o = a .out .now in
-    let u = three rows-word (a .rows) lines-word (a .lines) borders-word (a .borders) in
+    let u = three rows-word (a .rows) lines-word (ceil (a .rows) 16) borders-word (a .borders) in
     let v = three whole-word (a .whole) compared-word (a .compared) skipped-word (a .skipped) in
     let w = row-lines (a .ids .now) in
     let b = s .pre .0 in
     let m = s .pre .1 .1 in
-    (b .3, b .4, b .5, room-then o 0 u v (room-first o 0 (u ++ v) w m) _ _ (c .before .before .before .put-size .ensures))
+    (b .2, b .3, b .4, room-then o 0 u v (room-first o 0 (u ++ v) w m) _ _ (c .before .before .before .put-size .ensures))
 
 put-rows-requires : tie.Need-put-rows-requires
 unfolding found-text
@@ -38,7 +39,7 @@ put-rows-requires c κs =
     let s = c .before .before .before .before .before .before .before .before .before .before .before in
     let a = s .args in
     let o = a .out .now in
-    let u = three rows-word (a .rows) lines-word (a .lines) borders-word (a .borders) in
+    let u = three rows-word (a .rows) lines-word (ceil (a .rows) 16) borders-word (a .borders) in
     let v = three whole-word (a .whole) compared-word (a .compared) skipped-word (a .skipped) in
     let w = row-lines (a .ids .now) in
     let b = s .pre .0 in
@@ -54,7 +55,7 @@ returns c =
     let s = c .before .before .before .before .before .before .before .before .before .before .before .before .before .before in
     let a = s .args in
     let o = a .out .now in
-    let u = three rows-word (a .rows) lines-word (a .lines) borders-word (a .borders) in
+    let u = three rows-word (a .rows) lines-word (ceil (a .rows) 16) borders-word (a .borders) in
     let v = three whole-word (a .whole) compared-word (a .compared) skipped-word (a .skipped) in
     let w = row-lines (a .ids .now) in
     let b = s .pre .0 in
