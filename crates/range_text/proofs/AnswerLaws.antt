@@ -5,7 +5,6 @@ use mathlib.Core.List.{List, []}
 use mathlib.Core.Bool.{Bool, true, false, cond, and-eq-true-iff}
 use native.Mathlib.Omega.{arith}
 use lib.Dec.{leb, lit<}
-use lib.Dec.{leb}
 use lib.IntN.{ℤ}
 use lib.ListN.{length, getD, take}
 use lib.Signed.{ltZ}
@@ -119,8 +118,8 @@ module _ {col bs : List ℤ} {is ds : List ℕ} {low high low′ high′ : ℤ} 
     pub all-below : (i : ℕ) → getD (take n rows′) i 0 < 10000
     all-below i = rw front-is (ids-below col low high few i)
 
-    pub six-numbers : (length col < 10000) × (length bs < 10000) × (w < 10000) × (k < 10000) × (s < 10000)
-    six-numbers = let b = six-below col low high few in (b .0, omega (arith, b .2, ap length eb), omega (arith, b .3, parts .3), omega (arith, b .4, parts .4), omega (arith, b .5, parts .2))
+    pub five-numbers : (length col < 10000) × (length bs < 10000) × (w < 10000) × (k < 10000) × (s < 10000)
+    five-numbers = let b = six-below col low high few in (b .0, omega (arith, b .2, ap length eb), omega (arith, b .3, parts .3), omega (arith, b .4, parts .4), omega (arith, b .5, parts .2))
 
     pub text-is : found-text (length col) (ceil (length col) 16) (length bs) w k s (take n rows′) ≡ range-text col low high
     unfolding range-text

@@ -12,7 +12,7 @@ use Rattle.column_index.specs.declared.SearchAnswer.{SearchAnswer}
 use Rattle.range_text.specs.Text.{range-text}
 use Rattle.range_text.proofs.PutsLaws.{puts-as}
 use Rattle.range_text.proofs.LengthLaws.{refused-short}
-use Rattle.range_text.proofs.AnswerLaws.{never, low-text, count-few, all-below, six-numbers, text-is, text-room}
+use Rattle.range_text.proofs.AnswerLaws.{never, low-text, count-few, all-below, five-numbers, text-is, text-room}
 use Rattle.range_text.proofs.answering.searched_text.Statement.{statement}
 use Rattle.range_text.proofs.answering.searched_text.Tie as tie
 
@@ -53,7 +53,7 @@ put-found-requires c κs =
     let l = toZ-ofZ w32 (a .low) (s .fits .low) in
     let h = toZ-ofZ w32 (a .high) (s .fits .high) in
     let g = c .before .before .before .answer .given in
-    (six-numbers (s .pre .0 .0) refl (s .pre .1 .0) (s .pre .1 .1 .0) (s .pre .1 .1 .1) l h (f .ensures) (g .0 .0) (g .0 .1 .0) (g .0 .1 .1 .0) (g .0 .1 .1 .1 .0) (g .1), (all-below (s .pre .0 .0) refl (s .pre .1 .0) (s .pre .1 .1 .0) (s .pre .1 .1 .1) l h (f .ensures) (g .0 .0) (g .0 .1 .0) (g .0 .1 .1 .0) (g .0 .1 .1 .1 .0) (g .1), text-room (s .pre .0 .0) refl (s .pre .1 .0) (s .pre .1 .1 .0) (s .pre .1 .1 .1) l h (f .ensures) (g .0 .0) (g .0 .1 .0) (g .0 .1 .1 .0) (g .0 .1 .1 .1 .0) (g .1) (a .out .now) (s .pre .0 .1)))
+    (five-numbers (s .pre .0 .0) refl (s .pre .1 .0) (s .pre .1 .1 .0) (s .pre .1 .1 .1) l h (f .ensures) (g .0 .0) (g .0 .1 .0) (g .0 .1 .1 .0) (g .0 .1 .1 .1 .0) (g .1), (all-below (s .pre .0 .0) refl (s .pre .1 .0) (s .pre .1 .1 .0) (s .pre .1 .1 .1) l h (f .ensures) (g .0 .0) (g .0 .1 .0) (g .0 .1 .1 .0) (g .0 .1 .1 .1 .0) (g .1), text-room (s .pre .0 .0) refl (s .pre .1 .0) (s .pre .1 .1 .0) (s .pre .1 .1 .1) l h (f .ensures) (g .0 .0) (g .0 .1 .0) (g .0 .1 .1 .0) (g .0 .1 .1 .1 .0) (g .1) (a .out .now) (s .pre .0 .1)))
 
 enum-told : tie.Need-enum-told
 enum-told c = search needs
