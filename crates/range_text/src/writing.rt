@@ -4,6 +4,7 @@ ghost use Prim.Native.Nat.{ℕ, _+_, _<_};
 ghost use mathlib.Core.List.{[], _∷_};
 ghost use lib.ListN.{getD};
 ghost use Rattle.words.specs.Lists.{ceil};
+ghost use Rattle.bins.specs.Bins.{readings};
 ghost use Rattle.range_text.specs.loops.Puts.{Room, Puts};
 ghost use Rattle.range_text.specs.Text.{decimal, labelled, three, row-line, row-lines, refused-line, found-text, rows-word, lines-word, borders-word, whole-word, compared-word, skipped-word};
 
@@ -112,18 +113,11 @@ pub fn put_refused(out: &mut [u8], n: usize) -> usize
     put_byte(out, next, 10)
 }
 
-fn line_count(rows: usize) -> usize
-    requires { ⌜ rows < 10000 ⌝ }
-    ensures { λ r. ⌜ r ≡ ceil rows 16 ⌝ }
-{
-    (rows + 15) / 16
-}
-
 fn put_size(out: &mut [u8], rows: usize, borders: usize) -> usize
-    requires { ⌜ (rows < 10000) × (borders < 10000) × Room (now out) 0 (three rows-word rows lines-word (ceil rows 16) borders-word borders) ⌝ }
-    ensures { λ r. ⌜ Puts (now (out .entry)) 0 (three rows-word rows lines-word (ceil rows 16) borders-word borders) r (now (out .exit)) ⌝ }
+    requires { ⌜ (rows < 10000) × (borders < 10000) × Room (now out) 0 (three rows-word rows lines-word (ceil rows (readings .per)) borders-word borders) ⌝ }
+    ensures { λ r. ⌜ Puts (now (out .entry)) 0 (three rows-word rows lines-word (ceil rows (readings .per)) borders-word borders) r (now (out .exit)) ⌝ }
 {
-    let lines = line_count(rows);
+    let lines = reading_index::made::line_count(rows);
     put_three(
         out,
         0,
@@ -164,8 +158,8 @@ pub fn put_found(
 ) -> usize
     requires { ⌜ (rows < 10000) × (borders < 10000) × (whole < 10000) × (compared < 10000) × (skipped < 10000) ⌝ }
     requires { ⌜ ((k : ℕ) → getD (now ids) k 0 < 10000) ⌝ }
-    requires { ⌜ Room (now out) 0 (found-text rows (ceil rows 16) borders whole compared skipped (now ids)) ⌝ }
-    ensures { λ r. ⌜ Puts (now (out .entry)) 0 (found-text rows (ceil rows 16) borders whole compared skipped (now (ids .entry))) r (now (out .exit)) ⌝ }
+    requires { ⌜ Room (now out) 0 (found-text rows (ceil rows (readings .per)) borders whole compared skipped (now ids)) ⌝ }
+    ensures { λ r. ⌜ Puts (now (out .entry)) 0 (found-text rows (ceil rows (readings .per)) borders whole compared skipped (now (ids .entry))) r (now (out .exit)) ⌝ }
 {
     let first = put_size(&mut *out, rows, borders);
     let second = put_counts(&mut *out, first, whole, compared, skipped);

@@ -17,7 +17,7 @@ ghost use Rattle.column_index.specs.Index.{packed-with};
 ghost use Rattle.column_index.specs.Promise.{Builds, Packs, Unpacks};
 
 // How many lines so many rows make. The last may be shorter.
-pub(crate) fn line_count(rows: usize) -> usize
+pub fn line_count(rows: usize) -> usize
     requires { ⌜ rows ≤ most-rows ⌝ }
     ensures { λ r. ⌜ r ≡ ceil rows (readings .per) ⌝ }
 {

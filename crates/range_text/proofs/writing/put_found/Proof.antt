@@ -2,6 +2,7 @@
 use mathlib.Core.List.{[], _++_}
 use borrow.Author.Needs.{needs}
 use Rattle.words.specs.Lists.{ceil}
+use Rattle.bins.specs.Bins.{readings}
 use Rattle.range_text.specs.Text.{three, row-lines, found-text, rows-word, lines-word, borders-word, whole-word, compared-word, skipped-word}
 use Rattle.range_text.proofs.PutsLaws.{room-first, room-then, puts-then}
 use Rattle.range_text.proofs.writing.put_found.Statement.{statement}
@@ -13,7 +14,7 @@ put-size-requires c κs =
     let s = c .before .before .before in
     let a = s .args in
     let o = a .out .now in
-    let u = three rows-word (a .rows) lines-word (ceil (a .rows) 16) borders-word (a .borders) in
+    let u = three rows-word (a .rows) lines-word (ceil (a .rows) (readings .per)) borders-word (a .borders) in
     let v = three whole-word (a .whole) compared-word (a .compared) skipped-word (a .skipped) in
     let w = row-lines (a .ids .now) in
     let b = s .pre .0 in
@@ -26,7 +27,7 @@ put-counts-requires c κs =
     let s = c .before .before .before .before .before .before .before in
     let a = s .args in
     let o = a .out .now in
-    let u = three rows-word (a .rows) lines-word (ceil (a .rows) 16) borders-word (a .borders) in
+    let u = three rows-word (a .rows) lines-word (ceil (a .rows) (readings .per)) borders-word (a .borders) in
     let v = three whole-word (a .whole) compared-word (a .compared) skipped-word (a .skipped) in
     let w = row-lines (a .ids .now) in
     let b = s .pre .0 in
@@ -39,7 +40,7 @@ put-rows-requires c κs =
     let s = c .before .before .before .before .before .before .before .before .before .before .before in
     let a = s .args in
     let o = a .out .now in
-    let u = three rows-word (a .rows) lines-word (ceil (a .rows) 16) borders-word (a .borders) in
+    let u = three rows-word (a .rows) lines-word (ceil (a .rows) (readings .per)) borders-word (a .borders) in
     let v = three whole-word (a .whole) compared-word (a .compared) skipped-word (a .skipped) in
     let w = row-lines (a .ids .now) in
     let b = s .pre .0 in
@@ -55,7 +56,7 @@ returns c =
     let s = c .before .before .before .before .before .before .before .before .before .before .before .before .before .before in
     let a = s .args in
     let o = a .out .now in
-    let u = three rows-word (a .rows) lines-word (ceil (a .rows) 16) borders-word (a .borders) in
+    let u = three rows-word (a .rows) lines-word (ceil (a .rows) (readings .per)) borders-word (a .borders) in
     let v = three whole-word (a .whole) compared-word (a .compared) skipped-word (a .skipped) in
     let w = row-lines (a .ids .now) in
     let b = s .pre .0 in

@@ -3,6 +3,7 @@ use mathlib.Core.Path.{ap}
 use native.Mathlib.Omega.{arith}
 use borrow.Author.Needs.{needs}
 use Rattle.words.specs.Lists.{ceil}
+use Rattle.bins.specs.Bins.{readings}
 use Rattle.range_text.specs.Text.{three, rows-word, lines-word, borders-word}
 use Rattle.range_text.proofs.PutsLaws.{puts-as}
 use Rattle.range_text.proofs.writing.put_size.Statement.{statement}
@@ -33,7 +34,7 @@ returns : tie.Need-returns
 returns c =
     let a = c .before .before .before .before .before .before .before .before .before .args in
     let k = c .before .before .before .before .before .before .before .line-count in
-    puts-as (three rows-word (a .rows) lines-word (ceil (a .rows) 16) borders-word (a .borders)) (ap (λ n. three rows-word (a .rows) lines-word n borders-word (a .borders)) (k .ensures)) (c .before .before .put-three .ensures)
+    puts-as (three rows-word (a .rows) lines-word (ceil (a .rows) (readings .per)) borders-word (a .borders)) (ap (λ n. three rows-word (a .rows) lines-word n borders-word (a .borders)) (k .ensures)) (c .before .before .put-three .ensures)
 
 pub put-size-spec : {M : Type 1} → statement M
 put-size-spec =
