@@ -9,8 +9,9 @@ use lib.ListN.{length, getD}
 use Rattle.halving_tree.specs.Tree.{Tree, leaf, node, join, shift, treeOf, splits}
 use Rattle.halving_tree.specs.Encode.{size, leafWord}
 use Rattle.halving_tree.specs.loops.Place.{At}
-use Rattle.halving_tree.specs.loops.Form.{formOf, splitsOf, joinForm, Laid, Halved, Sub}
-use Rattle.halving_tree.specs.declared.Form.the-variants.{Mixed}
+use Rattle.halving_tree.specs.loops.Form.{formOf, splitsOf, kindOf, joinForm, Laid, Halved, Sub}
+use Rattle.halving_tree.specs.declared.Form.{Form}
+use Rattle.halving_tree.specs.declared.Form.the-variants.{Out, In, Mixed}
 use Rattle.halving_tree.proofs.Laws.{size-pos, at-in, at-room, at-unique, at-down, bit-lt, treeOf-down}
 use Rattle.halving_tree.proofs.AskLaws.{at-leaf, join-leaf}
 
@@ -46,6 +47,27 @@ form-join (leaf false) (node x y) = ap Mixed (omega arith)
 form-join (node x y) (leaf true) = ap Mixed (omega arith)
 form-join (node x y) (leaf false) = ap Mixed (omega arith)
 form-join (node x y) (node u v) = ap Mixed (omega arith)
+
+-- two leaves of one kind are joined to it, and all else is a split
+pub same-leaf : (l r : Form) → kindOf l < 2 → kindOf l ≡ kindOf r → l ≡ joinForm l r
+same-leaf Out Out lt e = refl
+same-leaf Out In lt e = absurd (omega arith)
+same-leaf Out (Mixed n) lt e = absurd (omega arith)
+same-leaf In Out lt e = absurd (omega arith)
+same-leaf In In lt e = refl
+same-leaf In (Mixed n) lt e = absurd (omega arith)
+same-leaf (Mixed m) r lt e = absurd (omega arith)
+
+pub split-form : (l r : Form) → (kindOf l < 2 → kindOf l ≡ kindOf r → ⊥) → Mixed (splitsOf l + splitsOf r + 1) ≡ joinForm l r
+split-form Out Out apart = absurd (apart (omega arith) (omega arith))
+split-form Out In apart = refl
+split-form Out (Mixed n) apart = ap Mixed (omega arith)
+split-form In Out apart = refl
+split-form In In apart = absurd (apart (omega arith) (omega arith))
+split-form In (Mixed n) apart = ap Mixed (omega arith)
+split-form (Mixed m) Out apart = ap Mixed (omega arith)
+split-form (Mixed m) In apart = ap Mixed (omega arith)
+split-form (Mixed m) (Mixed n) apart = refl
 
 pub form-leaf : (w : List ℕ) (p : ℕ) (b : Bool) → getD w p 0 ≡ leafWord b → (t : Tree) → At w p t → formOf (leaf b) ≡ formOf t
 form-leaf w p b e t h = ap formOf (sym (at-leaf w p t b h e))

@@ -102,27 +102,18 @@ fn flat(b: bool) -> Form
     if b { Form::In } else { Form::Out }
 }
 
+// Two leaves of one kind are one leaf.
 fn joined(l: Form, r: Form) -> Form
     requires { ⌜ splitsOf l + splitsOf r < 4000000000 ⌝ }
     ensures { λ f. ⌜ f ≡ joinForm l r ⌝ }
 {
-    match l {
-        Form::Out => match r {
-            Form::Out => Form::Out,
-            Form::In => Form::Mixed(1),
-            Form::Mixed(n) => Form::Mixed(n + 1),
-        },
-        Form::In => match r {
-            Form::Out => Form::Mixed(1),
-            Form::In => Form::In,
-            Form::Mixed(n) => Form::Mixed(n + 1),
-        },
-        Form::Mixed(m) => match r {
-            Form::Out => Form::Mixed(m + 1),
-            Form::In => Form::Mixed(m + 1),
-            Form::Mixed(n) => Form::Mixed(m + n + 1),
-        },
+    let a = kind(l);
+    if a < 2 {
+        if a == kind(r) {
+            return l;
+        }
     }
+    Form::Mixed(splits_of(l) + splits_of(r) + 1)
 }
 
 // The short form of the tree of n words at p, as it stands.

@@ -1,119 +1,56 @@
-use Rattle.halving_tree.specs.loops.Form.{splitsOf, joinForm}
-use mathlib.Core.Path.{ap, sym, ap₂}
+-- `joined` meets its contract. Assumes nothing.
+use Rattle.halving_tree.specs.loops.Form.{kindOf}
+use Rattle.halving_tree.specs.declared.Form.the-variants.{Mixed}
+use Rattle.halving_tree.proofs.FormLaws as laws
+use mathlib.Core.Path.{_≡_, ap₂, sym, _∙_}
+use mathlib.Core.Logic.{⊎-elim}
+use Prim.Native.Nat.{ℕ, _+_, _<_}
 use native.Mathlib.Omega.{arith}
 use borrow.Author.Needs.{needs}
 use Rattle.halving_tree.proofs.joined.Statement.{statement}
 use Rattle.halving_tree.proofs.joined.Tie as tie
 
-enum-told : tie.Need-enum-told
-enum-told c = search needs
+kind-requires : tie.Need-kind-requires
+kind-requires c κs = search needs
 
-enum-told-2 : tie.Need-enum-told-2
-enum-told-2 c = search needs
-
-enum-told-3 : tie.Need-enum-told-3
-enum-told-3 c = search needs
-
-enum-known-r : tie.Need-enum-known-r
-enum-known-r c = search needs
-
-add-t9 : tie.Need-add-t9
-add-t9 c = omega (arith, ap splitsOf (c .before .r .given .1))
-
-enum-told-4 : tie.Need-enum-told-4
-enum-told-4 c = search needs
-
-enum-told-5 : tie.Need-enum-told-5
-enum-told-5 c = search needs
-
-enum-told-6 : tie.Need-enum-told-6
-enum-told-6 c = search needs
-
-enum-known-r-2 : tie.Need-enum-known-r-2
-enum-known-r-2 c = search needs
-
-add-t11 : tie.Need-add-t11
-add-t11 c = omega (arith, ap splitsOf (c .before .r2 .given .1))
-
-enum-known-l : tie.Need-enum-known-l
-enum-known-l c = search needs
-
-enum-told-7 : tie.Need-enum-told-7
-enum-told-7 c = search needs
-
-add-t13 : tie.Need-add-t13
-add-t13 c = omega (arith, ap splitsOf (c .before .before .before .l .given .1))
-
-enum-told-8 : tie.Need-enum-told-8
-enum-told-8 c = search needs
-
-add-t14 : tie.Need-add-t14
-add-t14 c = omega (arith, ap splitsOf (c .before .before .before .l .given .1))
-
-enum-known-r-3 : tie.Need-enum-known-r-3
-enum-known-r-3 c = search needs
-
-add-t15 : tie.Need-add-t15
-add-t15 c = omega (arith, ap splitsOf (c .before .r3 .given .1), ap splitsOf (c .before .before .before .before .l .given .1))
-
-add-t16 : tie.Need-add-t16
-add-t16 c = omega (arith, ap splitsOf (c .before .r3 .given .1), ap splitsOf (c .before .before .before .before .l .given .1))
+kind-requires-2 : tie.Need-kind-requires-2
+kind-requires-2 c κs = search needs
 
 returns : tie.Need-returns
-returns c = search needs
+returns c =
+    let f = c .before .before in
+    let a = f .before .before .args in
+    laws.same-leaf (a .l) (a .r) (omega (arith, f .before .kind .ensures, f .if1 .taken)) (omega (arith, f .before .kind .ensures, c .before .kind2 .ensures, c .if2 .taken))
+
+splits-of-requires : tie.Need-splits-of-requires
+splits-of-requires c κs = search needs
+
+splits-of-requires-2 : tie.Need-splits-of-requires-2
+splits-of-requires-2 c κs = search needs
+
+add-t9 : tie.Need-add-t9
+add-t9 c = search needs
+
+add-t10 : tie.Need-add-t10
+add-t10 c = search needs
 
 returns-2 : tie.Need-returns-2
-returns-2 c = search needs
-
-returns-3 : tie.Need-returns-3
-returns-3 c = sym (ap₂ joinForm (c .before .before .before .enum-told .given .1) (c .before .r .given .1))
-
-returns-4 : tie.Need-returns-4
-returns-4 c = search needs
-
-returns-5 : tie.Need-returns-5
-returns-5 c = search needs
-
-returns-6 : tie.Need-returns-6
-returns-6 c = sym (ap₂ joinForm (c .before .before .before .enum-told4 .given .1) (c .before .r2 .given .1))
-
-returns-7 : tie.Need-returns-7
-returns-7 c = sym (ap₂ joinForm (c .before .before .before .l .given .1) (c .enum-told7 .given .1))
-
-returns-8 : tie.Need-returns-8
-returns-8 c = sym (ap₂ joinForm (c .before .before .before .l .given .1) (c .enum-told8 .given .1))
-
-returns-9 : tie.Need-returns-9
-returns-9 c = sym (ap₂ joinForm (c .before .before .before .before .l .given .1) (c .before .r3 .given .1))
+returns-2 c =
+    let f = c .before .before in
+    let a = f .before .before .args in
+    let k = f .before .kind .ensures in
+    let apart : kindOf (a .l) < 2 → kindOf (a .l) ≡ kindOf (a .r) → ⊥ = λ lt e. ⊎-elim (λ z. z .2 .left (k ∙ e ∙ sym (z .1 .ensures))) (λ z. omega (arith, z .left)) (f .if1 .came) in
+    ap₂ (λ (m : ℕ) (n : ℕ). Mixed (m + n + 1)) (c .before .splits-of .ensures) (c .splits-of2 .ensures) ∙ laws.split-form (a .l) (a .r) apart
 
 pub joined-spec : {M : Type 1} → statement M
 joined-spec =
     tie.close
     (tie.spec
-    enum-told
-    enum-told-2
-    enum-told-3
-    enum-known-r
-    add-t9
-    enum-told-4
-    enum-told-5
-    enum-told-6
-    enum-known-r-2
-    add-t11
-    enum-known-l
-    enum-told-7
-    add-t13
-    enum-told-8
-    add-t14
-    enum-known-r-3
-    add-t15
-    add-t16
+    kind-requires
+    kind-requires-2
     returns
-    returns-2
-    returns-3
-    returns-4
-    returns-5
-    returns-6
-    returns-7
-    returns-8
-    returns-9)
+    splits-of-requires
+    splits-of-requires-2
+    add-t9
+    add-t10
+    returns-2)
