@@ -13,7 +13,7 @@ use Rattle.range_filter.specs.declared.Forgot.{Forgot}
 use Rattle.guarded_search.specs.Promise.{Guards}
 use Rattle.guarded_search.specs.declared.GuardAnswer.{GuardAnswer}
 
--- Words left by a fresh filter and any calls, searches with both among them: over any column, with any index, any range and any row space. Any of these calls may be refused.
+-- Words left by a fresh filter and any calls, searches with both among them: over any column, with any index, any range and any row space. Any call after the fresh one may be refused.
 pub data Left-with-both : List ℕ → Type 0 where
   made : {w w′ : List ℕ} {r : Made} (levels room : ℕ) → Fresh levels room w r w′ → madeNumber r ≡ 0 → Left-with-both w′
   called : {w w′ : List ℕ} → Left-with-both w → Call w w′ → Left-with-both w′

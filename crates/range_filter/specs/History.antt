@@ -17,7 +17,7 @@ pub data Call : List ℕ → List ℕ → Type 0 where
   arrives : {w w′ : List ℕ} {r : Arrived} (x : ℕ) → Arrive w x r w′ → Call w w′
   forgets : {w w′ : List ℕ} {r : Forgot} → Forget w r w′ → Call w w′
 
--- Words left by a fresh filter and any calls.
+-- Words left by a fresh filter and any calls of the filter's own.
 pub data Left : List ℕ → Type 0 where
   made : {w w′ : List ℕ} {r : Made} (levels room : ℕ) → Fresh levels room w r w′ → madeNumber r ≡ 0 → Left w′
   called : {w w′ : List ℕ} → Left w → Call w w′ → Left w′
