@@ -1,4 +1,4 @@
--- What is built is accepted, and with it the search lists what a plain scan lists. Assumes nothing.
+-- The packed imprints of a column, with any good borders, are accepted, and with them the search lists what a plain scan lists. Assumes nothing.
 use Prim.Native.Nat.{ℕ, zero, suc, _^_, _<_, _≤_}
 use mathlib.Core.Path.{_≡_, refl, sym, _∙_, ap}
 use mathlib.Core.List.{List, [], _∷_, map}
@@ -11,9 +11,8 @@ use lib.IntN.{ℤ}
 use borrow.Author.Tests.{leb-true, le-leb, leb-false, lt-ltb}
 use Rattle.words.specs.Lists.{pieces, every}
 use Rattle.words.proofs.ListLaws.{pieces-nil, pieces-more, pieces-short}
-use Rattle.bins.specs.Bins.{Kind, InKind, bins, imprint, imprints, borders}
+use Rattle.bins.specs.Bins.{Kind, InKind, rising, bins, imprint, imprints, borders}
 use Rattle.bins.proofs.BinLaws.{imprint-lt, imprint-pos, imprints-length}
-use Rattle.bins.proofs.BorderLaws.{borders-rising}
 use Rattle.dictionary.specs.Dictionary.{fit, largest, accepted}
 use Rattle.dictionary.proofs.IndexLaws.{pack-accepted, unpack-pack}
 use Rattle.column_index.specs.Index.{packed-with, built, is-index-for}
@@ -60,8 +59,8 @@ module _ (k : Kind) (p : 0 < k .per) where
   pub built-accepted : (col : List ℤ) → is-index-for k (borders k col) col (built k col .dict) (built k col .imps) ≡ true
   built-accepted col = packed-accepted (borders k col) col
 
-  -- WITH THE INDEX BUILT FROM THE COLUMN THE SEARCH LISTS WHAT A PLAIN SCAN LISTS
-  pub built-scan : (col : List ℤ) (low high : ℤ) → InKind k col → search-by k (borders k col) (built k col .dict) (built k col .imps) col low high .ids ≡ scan k low high 0 col
-  built-scan col low high i =
-      ap (λ (ws : List ℕ). search k (borders k col) ws col low high .ids) (unpack-pack largest (lit≤ tt) (lit< tt) (imprints k (borders k col) col))
-      ∙ search-scan k (borders k col) low high (borders-rising k col) p col i
+  -- WITH THE PACKED IMPRINTS OF THE COLUMN THE SEARCH LISTS WHAT A PLAIN SCAN LISTS, whatever the borders
+  pub packed-scan : (bs col : List ℤ) (low high : ℤ) → rising bs ≡ true → InKind k col → search-by k bs (packed-with k bs col .dict) (packed-with k bs col .imps) col low high .ids ≡ scan k low high 0 col
+  packed-scan bs col low high r i =
+      ap (λ (ws : List ℕ). search k bs ws col low high .ids) (unpack-pack largest (lit≤ tt) (lit< tt) (imprints k bs col))
+      ∙ search-scan k bs low high r p col i

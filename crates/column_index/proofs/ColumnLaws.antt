@@ -1,10 +1,10 @@
 -- The loops of build: the imprints of a column's lines pushed one at a time, and borders copied. Assumes nothing.
-use Prim.Native.Nat.{ℕ, _+_, _*_, _<_, _≤_}
+use Prim.Native.Nat.{ℕ, _+_, _-_, _*_, _<_, _≤_}
 use mathlib.Core.Path.{_≡_, sym, _∙_, ap}
 use mathlib.Core.List.{List, []}
 use native.Mathlib.Omega.{arith}
 use native.Mathlib.Numerals.{add-one}
-use lib.ListN.{length, getD, take, drop, set, drop-of-length-le}
+use lib.ListN.{length, getD, take, drop, set, length-drop, drop-of-length-le}
 use lib.Seq.{sets, drop-cons}
 use lib.IntN.{ℤ, pos}
 use Rattle.words.specs.Lists.{ceil}
@@ -14,9 +14,10 @@ use Rattle.bins.proofs.BinLaws.{imprints-length}
 use Rattle.bins.proofs.LineLaws.{imprints-at}
 use Rattle.dictionary.specs.declared.packing.Packer.{Packer}
 use Rattle.dictionary.specs.Dictionary.{largest}
-use Rattle.dictionary.specs.loops.Packer.{after, move-on, added, settled}
-use Rattle.dictionary.proofs.PackLoops.{Measuring, measuring-next, measuring-ends, Writing, writing-next, writing-ends, dict-short, imps-short}
+use Rattle.dictionary.specs.loops.Packer.{after, move-on, added, settled, imps-from, dict-from, Steady, starting, kept-then, words-then}
+use Rattle.dictionary.proofs.PackLoops.{Measuring, measuring-next, measuring-ends, Writing, writing-next, writing-ends, dict-short, imps-short, dict-packs, imps-packs, starts-steady, words-then-all, kept-then-all}
 use Rattle.column_index.specs.Index.{packed-with}
+use Rattle.column_index.specs.Extended.{imprints-from}
 
 module _ (k : Kind) (bs col : List ℤ) where
   -- a packing is never longer than the lines
@@ -26,11 +27,33 @@ module _ (k : Kind) (bs col : List ℤ) where
   pub column-dict-short : length (packed-with k bs col .dict) ≤ ceil (length col) (k .per)
   column-dict-short = rw (← imprints-length k bs col) (dict-short (imprints k bs col))
 
-  module _ (p : Packer) (i : ℕ) where
-    -- line i begins inside the column
-    pub line-inside : 0 < k .per → i < ceil (length col) (k .per) → k .per * i ≤ length col
-    line-inside per h = omega (arith, ceil-below (length col) (k .per) i per h)
+  -- the lines from `first` on
+  pub lines-from : (first : ℕ) → length (imprints-from k bs col first) ≡ ceil (length col) (k .per) - first
+  lines-from first = rw (← imprints-length k bs col) (length-drop first (imprints k bs col))
 
+  -- a new packer that goes through all lines makes their packing
+  module _ (p : Packer) (new : p ≡ starting) where
+    pub steady-from-nothing : Steady (p .state)
+    steady-from-nothing = rw new starts-steady
+
+    pub kept-from-nothing : kept-then largest p (imprints-from k bs col 0) ≡ length (packed-with k bs col .imps)
+    kept-from-nothing = rw new (kept-then-all (imprints k bs col))
+
+    pub words-from-nothing : words-then largest p (imprints-from k bs col 0) ≡ length (packed-with k bs col .dict)
+    words-from-nothing = rw new (words-then-all (imprints k bs col))
+
+    pub imps-from-nothing : (l : List ℕ) → sets l (p .kept) (imps-from largest (p .state) (imprints-from k bs col 0)) ≡ sets l 0 (packed-with k bs col .imps)
+    imps-from-nothing l = rw new (ap (sets l 0) (imps-packs (imprints k bs col)))
+
+    pub dict-from-nothing : (l : List ℕ) → sets l (p .words) (dict-from largest (p .state) (imprints-from k bs col 0)) ≡ sets l 0 (packed-with k bs col .dict)
+    dict-from-nothing l = rw new (ap (sets l 0) (dict-packs (imprints k bs col)))
+
+  -- line i begins inside the column
+  pub line-inside : (i : ℕ) → 0 < k .per → i < ceil (length col) (k .per) → k .per * i ≤ length col
+  line-inside i per h = omega (arith, ceil-below (length col) (k .per) i per h)
+
+  -- p₀ was the packer before the lines from line `first` on, p is the packer before line i
+  module _ (p₀ : Packer) (first : ℕ) (p : Packer) (i : ℕ) where
     module _ (y : ℕ) (of-y : y ≡ imprint k bs (take (k .per) (drop (k .per * i) col))) (h : i < ceil (length col) (k .per)) where
       here : getD (imprints k bs col) i 0 ≡ y
       here = imprints-at k bs col i h ∙ sym of-y
@@ -38,21 +61,21 @@ module _ (k : Kind) (bs col : List ℤ) where
       inside : i < length (imprints k bs col)
       inside = rw imprints-length h
 
-      pub column-measures : Measuring (imprints k bs col) p (drop i (imprints k bs col)) → Measuring (imprints k bs col) (after p (move-on largest (p .state) y)) (drop (i + 1) (imprints k bs col))
-      column-measures m = rw here at (measuring-next (imprints k bs col) p i inside m)
+      pub column-measures : Measuring p₀ (drop first (imprints k bs col)) p (drop i (imprints k bs col)) → Measuring p₀ (drop first (imprints k bs col)) (after p (move-on largest (p .state) y)) (drop (i + 1) (imprints k bs col))
+      column-measures m = rw here at (measuring-next p₀ (drop first (imprints k bs col)) (imprints k bs col) p i inside m)
 
-      pub column-writes : (i₀ d₀ is ds : List ℕ) → Writing (imprints k bs col) i₀ d₀ p (drop i (imprints k bs col)) is ds → (is′ ds′ : List ℕ) → is′ ≡ sets is (p .kept) (added (move-on largest (p .state) y .keeps) y) → ds′ ≡ sets ds (p .words) (settled (move-on largest (p .state) y .word)) → Writing (imprints k bs col) i₀ d₀ (after p (move-on largest (p .state) y)) (drop (i + 1) (imprints k bs col)) is′ ds′
-      column-writes i₀ d₀ is ds = rw here at (writing-next (imprints k bs col) p i i₀ d₀ is ds inside)
+      pub column-writes : (i₀ d₀ is ds : List ℕ) → Writing p₀ (drop first (imprints k bs col)) i₀ d₀ p (drop i (imprints k bs col)) is ds → (is′ ds′ : List ℕ) → is′ ≡ sets is (p .kept) (added (move-on largest (p .state) y .keeps) y) → ds′ ≡ sets ds (p .words) (settled (move-on largest (p .state) y .word)) → Writing p₀ (drop first (imprints k bs col)) i₀ d₀ (after p (move-on largest (p .state) y)) (drop (i + 1) (imprints k bs col)) is′ ds′
+      column-writes i₀ d₀ is ds = rw here at (writing-next p₀ (drop first (imprints k bs col)) (imprints k bs col) p i i₀ d₀ is ds inside)
 
     module _ (h : ceil (length col) (k .per) ≤ i) where
       past : length (imprints k bs col) ≤ i
       past = rw imprints-length h
 
-      pub column-measured : Measuring (imprints k bs col) p (drop i (imprints k bs col)) → Measuring (imprints k bs col) p []
-      column-measured m = measuring-ends (imprints k bs col) p i past m
+      pub column-measured : Measuring p₀ (drop first (imprints k bs col)) p (drop i (imprints k bs col)) → Measuring p₀ (drop first (imprints k bs col)) p []
+      column-measured m = measuring-ends p₀ (drop first (imprints k bs col)) (imprints k bs col) p i past m
 
-      pub column-written : (i₀ d₀ is ds : List ℕ) → Writing (imprints k bs col) i₀ d₀ p (drop i (imprints k bs col)) is ds → Writing (imprints k bs col) i₀ d₀ p [] is ds
-      column-written i₀ d₀ is ds w = writing-ends (imprints k bs col) p i i₀ d₀ is ds past w
+      pub column-written : (i₀ d₀ is ds : List ℕ) → Writing p₀ (drop first (imprints k bs col)) i₀ d₀ p (drop i (imprints k bs col)) is ds → Writing p₀ (drop first (imprints k bs col)) i₀ d₀ p [] is ds
+      column-written i₀ d₀ is ds w = writing-ends p₀ (drop first (imprints k bs col)) (imprints k bs col) p i i₀ d₀ is ds past w
 
 -- ---- borders, copied
 

@@ -4,3 +4,9 @@ pub mod CallLaws
 pub mod AnswerLaws
 pub mod ColumnLaws
 pub mod MadeLaws
+pub mod GoingLaws
+pub mod GoneLaws
+pub mod OwnLaws
+pub mod ExtendedLaws
+pub mod AppendLaws
+pub mod AppendCases

@@ -1,38 +1,30 @@
--- Pack and unpack undo each other, and a search with the index that build answers lists what a plain scan lists: from the calls' own promises. Assumes nothing.
-use Prim.Native.Nat.{ℕ, _<_, _≤_}
+-- Pack and unpack undo each other, and what build left: from the calls' own promises. Assumes nothing.
+use Prim.Native.Nat.{ℕ, _≤_}
 use mathlib.Core.Path.{_≡_, refl, sym, _∙_, ap, ap₂}
 use mathlib.Core.List.{List}
-use mathlib.Core.Bool.{Bool, true, false, cond, not, and-eq-true-iff}
+use mathlib.Core.Bool.{Bool, true, false, cond, not}
 use native.Mathlib.Omega.{arith}
-use lib.Dec.{leb, ltb, lit<, lit≤}
+use lib.Dec.{ltb, lit<, lit≤}
 use lib.ListN.{length, take}
 use lib.IntN.{ℤ}
-use lib.Signed.{ltZ}
-use borrow.Author.Tests.{le-ltb, le-leb, ltb-false}
+use borrow.Author.Tests.{le-ltb, ltb-false}
 use Rattle.words.specs.Numbers.{numbered}
 use Rattle.words.specs.Lists.{every, filled}
 use Rattle.words.proofs.ListLaws.{take-filled}
-use Rattle.bins.specs.Bins.{Kind, InKind, most-rows, most-lines, borders, rising, good-borders, bins}
-use Rattle.bins.proofs.BorderLaws.{borders-rising, borders-count}
+use Rattle.bins.specs.Bins.{Kind, most-rows, most-lines, borders, good-borders, bins}
 use Rattle.dictionary.specs.Dictionary.{pack, unpack, largest, fit, accepted}
 use Rattle.dictionary.proofs.IndexLaws.{unpack-pack, pack-unpack, accepted-lines, pack-accepted}
-use Rattle.column_index.specs.Index.{built, is-index-for}
-use Rattle.run_search.specs.Search.{Answer, scan, search-by}
-use Rattle.column_index.specs.Exact.{Lists-the-scan}
-use Rattle.column_index.specs.Promise.{Builds, build-answer, build-number, Packs, pack-answer, pack-number, Unpacks, unpack-answer, unpack-number, Searches, search-answer}
+use Rattle.column_index.specs.Index.{built}
+use Rattle.column_index.specs.Promise.{Builds, build-answer, build-number, Packs, pack-answer, pack-number, Unpacks, unpack-answer, unpack-number}
 use Rattle.column_index.specs.declared.BuildAnswer.{BuildAnswer}
 use Rattle.column_index.specs.declared.BuildAnswer.the-variants as build
 use Rattle.column_index.specs.declared.PackAnswer.{PackAnswer}
 use Rattle.column_index.specs.declared.PackAnswer.the-variants as packing
 use Rattle.column_index.specs.declared.UnpackAnswer.{UnpackAnswer}
 use Rattle.column_index.specs.declared.UnpackAnswer.the-variants as unpacking
-use Rattle.column_index.specs.declared.SearchAnswer.{SearchAnswer}
-use Rattle.column_index.specs.declared.SearchAnswer.the-variants as searching
-use Rattle.column_index.proofs.BuiltLaws.{built-accepted, built-scan}
-use Rattle.run_search.proofs.RowsLaws.{search-rises}
 
 -- the front of a space that xs filled, by their number
-front {ℓ} : {A : Type ℓ} (n : ℕ) (xs l l′ : List A) → n ≡ length xs → l′ ≡ filled xs l → take n l′ ≡ xs
+pub front {ℓ} : {A : Type ℓ} (n : ℕ) (xs l l′ : List A) → n ≡ length xs → l′ ≡ filled xs l → take n l′ ≡ xs
 front n xs l l′ h e = ap₂ take h e ∙ take-filled xs l
 
 -- ---- an answer of number 0 is one whose checks all passed
@@ -148,7 +140,7 @@ packs-unpacked {k} {bs} {is} {ds} {lines} {n} {list} {list′} {is₀} {ds₀} {
     dictionary-is : ds′ ≡ filled ds ds₀
     dictionary-is = rw (answer, dict-is) at (p .dictionary-after)
 
--- ---- a search with what build answered
+-- ---- what build left
 
 -- what build's promise says where it answers number 0
 pub record Built-all (k : Kind) (col : List ℤ) (b i d : ℕ) (bs′ : List ℤ) (is′ ds′ : List ℕ) : Type 0 where
@@ -170,53 +162,3 @@ builds-all {k} {col} {bs} {is} {ds} {b} {i} {d} {bs′} {is′} {ds′} p =
       imprints-front = front i (built k col .imps) is is′ (h .2) (p .imprints-after);
       dictionary-front = front d (built k col .dict) ds ds′ (h .3) (p .dictionary-after);
     }
-
-good-built : (k : Kind) (col : List ℤ) → good-borders (borders k col) ≡ true
-good-built k col = and-eq-true-iff (leb (length (borders k col)) 63) (rising (borders k col)) .1 (le-leb (length (borders k col)) 63 (borders-count k col), borders-rising k col)
-
--- WITH THE INDEX THAT BUILD ANSWERS, A SEARCH LISTS EXACTLY THE ROWS OF A PLAIN SCAN, RISING
-pub searches-built : {k : Kind} {col bs : List ℤ} {is ds : List ℕ} {b i d : ℕ} {bs′ : List ℤ} {is′ ds′ : List ℕ} {low high : ℤ} {rows : List ℕ} {r : SearchAnswer} {rows′ : List ℕ}
-    → Builds k col bs is ds (build.Done b i d) bs′ is′ ds′
-    → Searches k col (take b bs′) (take i is′) (take d ds′) low high rows r rows′
-    → 0 < k .per
-    → InKind k col
-    → ltZ high low ≡ false
-    → length (scan k low high 0 col) ≤ length rows
-    → Lists-the-scan k col low high r rows′
-unfolding search-answer
-searches-built {k} {col} {bs} {is} {ds} {b} {i} {d} {bs′} {is′} {ds′} {low} {high} {rows} {r} {rows′} p s per kind order room =
-    record {
-      skipped = found .skips;
-      whole = found .wholes;
-      compared = found .compares;
-      answers = answer;
-      rows-front = ap (take (length all)) filled-rows ∙ take-filled all rows;
-      rise = rw ids-are at (search-rises k low high per (take b bs′) (unpack (take d ds′) (take i is′)) col);
-    }
-  where
-    a : Built-all k col b i d bs′ is′ ds′
-    a = builds-all p
-
-    found : Answer
-    found = search-by k (take b bs′) (take d ds′) (take i is′) col low high
-
-    all : List ℕ
-    all = scan k low high 0 col
-
-    ids-are : search-by k (take b bs′) (take d ds′) (take i is′) col low high .ids ≡ scan k low high 0 col
-    ids-are = rw (a .borders-front, a .imprints-front, a .dictionary-front) (built-scan k per col low high kind)
-
-    index : is-index-for k (take b bs′) col (take d ds′) (take i is′) ≡ true
-    index = rw (a .borders-front, a .imprints-front, a .dictionary-front) (built-accepted k per col)
-
-    good : good-borders (take b bs′) ≡ true
-    good = ap good-borders (a .borders-front) ∙ good-built k col
-
-    fits : ltb (length rows) (length (search-by k (take b bs′) (take d ds′) (take i is′) col low high .ids)) ≡ false
-    fits = rw ids-are (le-ltb (length rows) (length (scan k low high 0 col)) room)
-
-    answer : r ≡ searching.Done (length (scan k low high 0 col)) (search-by k (take b bs′) (take d ds′) (take i is′) col low high .skips) (search-by k (take b bs′) (take d ds′) (take i is′) col low high .wholes) (search-by k (take b bs′) (take d ds′) (take i is′) col low high .compares)
-    answer = s .answers ∙ rw (le-ltb most-rows (length col) (a .few), good, index, order, fits, ids-are)
-
-    filled-rows : rows′ ≡ filled (scan k low high 0 col) rows
-    filled-rows = rw (answer, ids-are) at (s .rows-after)

@@ -6,8 +6,9 @@ use lib.IntN.{ℤ}
 use Rattle.bins.specs.Bins.{Kind}
 use Rattle.words.specs.Numbers.{numbered}
 use Rattle.words.proofs.ListLaws.{after-keeps}
-use Rattle.column_index.specs.Promise.{Builds, build-number, Packs, pack-number, Unpacks, unpack-number, Searches, search-number}
+use Rattle.column_index.specs.Promise.{Builds, build-number, Appends, append-number, Packs, pack-number, Unpacks, unpack-number, Searches, search-number}
 use Rattle.column_index.specs.declared.BuildAnswer.{BuildAnswer}
+use Rattle.column_index.specs.declared.AppendAnswer.{AppendAnswer}
 use Rattle.column_index.specs.declared.PackAnswer.{PackAnswer}
 use Rattle.column_index.specs.declared.UnpackAnswer.{UnpackAnswer}
 use Rattle.column_index.specs.declared.SearchAnswer.{SearchAnswer}
@@ -22,6 +23,14 @@ module _ {k : Kind} {col bs : List ℤ} {is ds : List ℕ} where
     p .imprints-after ∙ after-keeps (numbered (build-number r)) _ is ne,
     p .dictionary-after ∙ after-keeps (numbered (build-number r)) _ ds ne,
   )
+
+module _ {k : Kind} {col : List ℤ} {covered : ℕ} {bs : List ℤ} {is : List ℕ} {ti : ℕ} {ds : List ℕ} {td : ℕ} where
+  pub appends-only : {r s : AppendAnswer} {i₁ i₂ d₁ d₂ : List ℕ} → Appends k col covered bs is ti ds td r i₁ d₁ → Appends k col covered bs is ti ds td s i₂ d₂ → (r ≡ s) × (i₁ ≡ i₂) × (d₁ ≡ d₂)
+  appends-only p q = (cc, cc, cc)
+
+  pub appends-keeps : {r : AppendAnswer} {i₁ d₁ : List ℕ} → Appends k col covered bs is ti ds td r i₁ d₁ → (numbered (append-number r) ≡ 0 → ⊥) → (i₁ ≡ is) × (d₁ ≡ ds)
+  appends-keeps {r} p ne =
+      (p .imprints-after ∙ after-keeps (numbered (append-number r)) _ is ne, p .dictionary-after ∙ after-keeps (numbered (append-number r)) _ ds ne)
 
 module _ {k : Kind} {ws : List ℕ} {bs : List ℤ} {is ds : List ℕ} where
   pub packs-only : {r s : PackAnswer} {i₁ i₂ d₁ d₂ : List ℕ} → Packs k ws bs is ds r i₁ d₁ → Packs k ws bs is ds s i₂ d₂ → (r ≡ s) × (i₁ ≡ i₂) × (d₁ ≡ d₂)

@@ -1,11 +1,12 @@
--- Document 01: the packed imprints of a column, which with its borders are its index, and which words are an index for a column of this length. Assumes nothing.
+-- Document 01: the packed imprints of a column, which with its borders are its index, and which words are an index for a column of this length; with document 02, request 101: its own index, whatever its borders. Assumes nothing.
 use Prim.Native.Nat.{ℕ}
+use mathlib.Core.Path.{_≡_}
 use mathlib.Core.List.{List}
-use mathlib.Core.Bool.{Bool}
+use mathlib.Core.Bool.{Bool, true}
 use lib.ListN.{length}
 use lib.IntN.{ℤ}
 use Rattle.words.specs.Lists.{ceil}
-use Rattle.bins.specs.Bins.{Kind, borders, bins, imprints}
+use Rattle.bins.specs.Bins.{Kind, borders, good-borders, bins, imprints}
 use Rattle.dictionary.specs.Dictionary.{Packed, pack, largest, accepted}
 
 -- rows r make ceil(r / rows per line) lines
@@ -23,3 +24,9 @@ built k col = packed-with k (borders k col) col
 -- the words ds, is are a packed form for a column of this length, with borders bs
 abbrev pub is-index-for : Kind → List ℤ → List ℤ → List ℕ → List ℕ → Bool
 is-index-for k bs col ds is = accepted largest (bins bs) (line-count k col) ds is
+
+-- A column's own index: good borders, and words that are the packing of the column's imprints with them.
+pub record Own (k : Kind) (col bs : List ℤ) (is ds : List ℕ) : Type 0 where
+  pub good : good-borders bs ≡ true
+  pub imprints-own : is ≡ packed-with k bs col .imps
+  pub dictionary-own : ds ≡ packed-with k bs col .dict

@@ -1,4 +1,4 @@
--- Document 01: what build, pack, unpack and range search answer, in the order of their checks, and what every lent word is afterwards. Assumes nothing.
+-- Document 01: what build, pack, unpack and range search answer, and document 02, request 101: what append does, in the order of their checks, and what every lent word is afterwards. Assumes nothing.
 -- col is the column, bs the borders, is the imprints, ds the dictionary, ws a list of imprints, r the answer; a name with ′ is that space afterwards.
 use mathlib.Core.Path.{_≡_}
 use Prim.Native.Nat.{ℕ}
@@ -6,16 +6,20 @@ use mathlib.Core.List.{List, [], _∷_}
 use mathlib.Core.Bool.{cond, not}
 use lib.Dec.{ltb}
 use lib.IntN.{ℤ}
-use lib.ListN.{length}
+use lib.ListN.{length, take}
 use lib.Signed.{ltZ}
-use Rattle.words.specs.Numbers.{Number, numbered, done, low-above-high, column-too-long, no-index, space-too-short, bad-borders}
-use Rattle.words.specs.Lists.{every, after}
+use Rattle.words.specs.Numbers.{Number, numbered, done, low-above-high, column-too-long, no-index, space-too-short, bad-borders, covered-above-rows}
+use Rattle.words.specs.Lists.{ceil, every, after}
 use Rattle.bins.specs.Bins.{Kind, most-rows, most-lines, borders, good-borders, bins}
 use Rattle.dictionary.specs.Dictionary.{pack, unpack, largest, fit, accepted}
+use Rattle.dictionary.specs.Told.{told-index}
 use Rattle.column_index.specs.Index.{built, is-index-for}
+use Rattle.column_index.specs.Extended.{extended-index}
 use Rattle.run_search.specs.Search.{Answer, search-by}
 use Rattle.column_index.specs.declared.BuildAnswer.{BuildAnswer}
 use Rattle.column_index.specs.declared.BuildAnswer.the-variants as build
+use Rattle.column_index.specs.declared.AppendAnswer.{AppendAnswer}
+use Rattle.column_index.specs.declared.AppendAnswer.the-variants as appending
 use Rattle.column_index.specs.declared.PackAnswer.{PackAnswer}
 use Rattle.column_index.specs.declared.PackAnswer.the-variants as packing
 use Rattle.column_index.specs.declared.UnpackAnswer.{UnpackAnswer}
@@ -56,6 +60,45 @@ pub record Builds (k : Kind) (col bs : List ℤ) (is ds : List ℕ) (r : BuildAn
   pub borders-after : bs′ ≡ after (numbered (build-number r)) (borders k col) bs
   pub imprints-after : is′ ≡ after (numbered (build-number r)) (built k col .imps) is
   pub dictionary-after : ds′ ≡ after (numbered (build-number r)) (built k col .dict) ds
+
+-- ---- append: 2, 17, 5, 3, 4
+
+abbrev pub append-number : AppendAnswer → Number
+append-number (appending.Done i d) = done
+append-number appending.TooLong = column-too-long
+append-number appending.CoveredAbove = covered-above-rows
+append-number appending.BadBorders = bad-borders
+append-number appending.NoIndex = no-index
+append-number (appending.ImprintsShort n) = space-too-short
+append-number (appending.DictionaryShort n) = space-too-short
+
+-- beside the number: the whole length needed, and the new lengths of imprints and dictionary
+abbrev pub append-beside : AppendAnswer → List ℕ
+append-beside (appending.Done i d) = 0 ∷ i ∷ d ∷ []
+append-beside appending.TooLong = 0 ∷ 0 ∷ 0 ∷ []
+append-beside appending.CoveredAbove = 0 ∷ 0 ∷ 0 ∷ []
+append-beside appending.BadBorders = 0 ∷ 0 ∷ 0 ∷ []
+append-beside appending.NoIndex = 0 ∷ 0 ∷ 0 ∷ []
+append-beside (appending.ImprintsShort n) = n ∷ 0 ∷ 0 ∷ []
+append-beside (appending.DictionaryShort n) = n ∷ 0 ∷ 0 ∷ []
+
+-- the answer where the parts have the lengths i, d and the lent spaces si, sd
+abbrev pub append-lengths : ℕ → ℕ → ℕ → ℕ → AppendAnswer
+append-lengths i d si sd = cond (ltb si i) (appending.ImprintsShort i) (cond (ltb sd d) (appending.DictionaryShort d) (appending.Done i d))
+
+-- ti and td are the told lengths: the index of the covered rows is the first ti words of is and the first td of ds
+unfoldable pub append-answer : Kind → List ℤ → ℕ → List ℤ → List ℕ → ℕ → List ℕ → ℕ → AppendAnswer
+append-answer k col covered bs is ti ds td =
+    cond (ltb most-rows (length col)) appending.TooLong
+    (cond (ltb (length col) covered) appending.CoveredAbove
+    (cond (not (good-borders bs)) appending.BadBorders
+    (cond (not (told-index (bins bs) (ceil covered (k .per)) is ti ds td)) appending.NoIndex
+    (append-lengths (length (extended-index k bs col covered (take td ds) (take ti is) .imps)) (length (extended-index k bs col covered (take td ds) (take ti is) .dict)) (length is) (length ds)))))
+
+pub record Appends (k : Kind) (col : List ℤ) (covered : ℕ) (bs : List ℤ) (is : List ℕ) (ti : ℕ) (ds : List ℕ) (td : ℕ) (r : AppendAnswer) (is′ ds′ : List ℕ) : Type 0 where
+  pub answers : r ≡ append-answer k col covered bs is ti ds td
+  pub imprints-after : is′ ≡ after (numbered (append-number r)) (extended-index k bs col covered (take td ds) (take ti is) .imps) is
+  pub dictionary-after : ds′ ≡ after (numbered (append-number r)) (extended-index k bs col covered (take td ds) (take ti is) .dict) ds
 
 -- ---- pack: 2, 5, 3, 4
 

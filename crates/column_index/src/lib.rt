@@ -13,6 +13,17 @@ pub enum BuildAnswer {
     DictionaryShort(usize),
 }
 
+// What append answers: the new lengths of the two parts; a column that is too long; a covered number above its length; borders or told words that are none; or the first space that is too short, with its whole new length.
+pub enum AppendAnswer {
+    Done { imprints: usize, dictionary: usize },
+    TooLong,
+    CoveredAbove,
+    BadBorders,
+    NoIndex,
+    ImprintsShort(usize),
+    DictionaryShort(usize),
+}
+
 // What pack answers: the lengths of the two parts, or why not.
 pub enum PackAnswer {
     Done { imprints: usize, dictionary: usize },
@@ -53,4 +64,11 @@ pub enum IndexCheck {
     TooLong,
     BadBorders,
     NoIndex,
+}
+
+// Whether two spaces have room for the words of a packing: its lengths, or the first that is too short, with the length needed.
+pub enum Spaces {
+    Filled { imprints: usize, dictionary: usize },
+    ImprintsShort(usize),
+    DictionaryShort(usize),
 }

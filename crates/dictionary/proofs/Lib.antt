@@ -11,6 +11,8 @@ pub mod PositionLaws
 pub mod StepLaws
 pub mod TurnLaws
 pub mod PackLoops
+pub mod GoneLaws
+pub mod ToldLaws
 pub mod FitLaws
 pub mod EntryLaws
 pub mod ScanLaws

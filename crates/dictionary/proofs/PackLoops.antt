@@ -16,7 +16,7 @@ use Rattle.dictionary.specs.declared.packing.Open.{Open}
 use Rattle.dictionary.specs.declared.packing.Open.the-variants.{Nothing, Lone, Run, Spill}
 use Rattle.dictionary.specs.declared.packing.Opened.{Opened}
 use Rattle.dictionary.specs.declared.packing.Packer.{Packer}
-use Rattle.dictionary.specs.loops.Packer.{opened, fresh, Steady, move, move-on, last-of, last-word, settled, added, dict-from, imps-from, packer, after}
+use Rattle.dictionary.specs.loops.Packer.{opened, fresh, Steady, move, move-on, last-of, last-word, settled, added, dict-from, imps-from, after, starting, kept-then, words-then}
 use Rattle.dictionary.proofs.PackerLaws.{dict-is, imps-is}
 
 -- ---- the open entry stays steady
@@ -40,11 +40,11 @@ steady-turn s y h = go (s .kind) (eqb (s .last) y) (eqb (s .count) largest) refl
 
 -- ---- how many words
 
-length-added : (k : Bool) (y : ℕ) → length (added k y) ≡ cond k 1 0
+pub length-added : (k : Bool) (y : ℕ) → length (added k y) ≡ cond k 1 0
 length-added true y = refl
 length-added false y = refl
 
-at-most-one : (d : ℕ) → length (settled d) ≤ 1
+pub at-most-one : (d : ℕ) → length (settled d) ≤ 1
 at-most-one zero = omega arith
 at-most-one (suc d) = omega arith
 
@@ -67,13 +67,13 @@ settles-open s y = go (s .kind) (eqb (s .last) y) (eqb (s .count) largest)
     go Spill true f = omega arith
     go Spill false f = omega arith
 
-dict-length : (ws : List ℕ) (s : Opened) → length (dict-from largest s ws) ≤ length ws + length (settled (last-word s))
+pub dict-length : (ws : List ℕ) (s : Opened) → length (dict-from largest s ws) ≤ length ws + length (settled (last-word s))
 dict-length [] s = omega arith
 dict-length (y ∷ ws) s =
     let t = move-on largest s y in
     omega (arith, length-append (settled (t .word)) (dict-from largest (t .next) ws), dict-length ws (t .next), settles-open s y, at-most-one (last-word (t .next)))
 
-imps-length : (ws : List ℕ) (s : Opened) → length (imps-from largest s ws) ≤ length ws
+pub imps-length : (ws : List ℕ) (s : Opened) → length (imps-from largest s ws) ≤ length ws
 imps-length [] s = omega arith
 imps-length (y ∷ ws) s =
     let t = move-on largest s y in
@@ -101,23 +101,29 @@ dict-short ws = rw (← dict-packs ws) (omega (arith, dict-length ws fresh))
 pub imps-short : (ws : List ℕ) → length (pack largest ws .imps) ≤ length ws
 imps-short ws = rw (← imps-packs ws) (imps-length ws fresh)
 
--- ---- measuring: p is the packer and `rest` the imprints still to come, of all the imprints ws
+-- ---- measuring: p₀ is the packer before the imprints ws, p the packer now, and `rest` those still to come
 
-pub record Measuring (ws : List ℕ) (p : Packer) (rest : List ℕ) : Type 0 where
+pub record Measuring (p₀ : Packer) (ws : List ℕ) (p : Packer) (rest : List ℕ) : Type 0 where
   pub steady : Steady (p .state)
-  pub of-words : p .words + length (dict-from largest (p .state) rest) ≡ length (pack largest ws .dict)
-  pub of-kept : p .kept + length (imps-from largest (p .state) rest) ≡ length (pack largest ws .imps)
+  pub of-words : words-then largest p rest ≡ words-then largest p₀ ws
+  pub of-kept : kept-then largest p rest ≡ kept-then largest p₀ ws
 
-pub measuring-starts : (ws : List ℕ) → Measuring ws (packer fresh 0 0) ws
-measuring-starts ws = record {
-  steady = (omega arith, omega arith);
-  of-words = omega (arith, ap length (dict-packs ws));
-  of-kept = omega (arith, ap length (imps-packs ws));
-}
+pub measuring-starts : (p₀ : Packer) (ws : List ℕ) → Steady (p₀ .state) → Measuring p₀ ws p₀ ws
+measuring-starts p₀ ws h = record { steady = h; of-words = refl; of-kept = refl }
 
-module _ (ws : List ℕ) (p : Packer) (y : ℕ) (rest : List ℕ) where
+-- from nothing on, the lengths in the end are the packing's
+pub starts-steady : Steady fresh
+starts-steady = (omega arith, omega arith)
+
+pub words-then-all : (ws : List ℕ) → words-then largest starting ws ≡ length (pack largest ws .dict)
+words-then-all ws = omega (arith, ap length (dict-packs ws))
+
+pub kept-then-all : (ws : List ℕ) → kept-then largest starting ws ≡ length (pack largest ws .imps)
+kept-then-all ws = omega (arith, ap length (imps-packs ws))
+
+module _ (p₀ : Packer) (ws : List ℕ) (p : Packer) (y : ℕ) (rest : List ℕ) where
   -- a turn
-  pub measuring-turns : Measuring ws p (y ∷ rest) → Measuring ws (after p (move-on largest (p .state) y)) rest
+  pub measuring-turns : Measuring p₀ ws p (y ∷ rest) → Measuring p₀ ws (after p (move-on largest (p .state) y)) rest
   measuring-turns m =
       let t = move-on largest (p .state) y in
       record {
@@ -126,59 +132,59 @@ module _ (ws : List ℕ) (p : Packer) (y : ℕ) (rest : List ℕ) where
         of-kept = omega (arith, m .of-kept, length-append (added (t .keeps) y) (imps-from largest (t .next) rest), length-added (t .keeps) y);
       }
 
--- the numbers never pass those of the packing
-module _ (ws : List ℕ) (p : Packer) (rest : List ℕ) where
-  pub words-within : Measuring ws p rest → p .words ≤ length (pack largest ws .dict)
+-- the numbers never pass those in the end
+module _ (p₀ : Packer) (ws : List ℕ) (p : Packer) (rest : List ℕ) where
+  pub words-within : Measuring p₀ ws p rest → p .words ≤ words-then largest p₀ ws
   words-within m = omega (arith, m .of-words)
 
-  pub kept-within : Measuring ws p rest → p .kept ≤ length (pack largest ws .imps)
+  pub kept-within : Measuring p₀ ws p rest → p .kept ≤ kept-then largest p₀ ws
   kept-within m = omega (arith, m .of-kept)
 
 -- ---- writing: from the spaces d₀ and i₀ to d and i so far
 
-pub record Writing (ws : List ℕ) (i₀ d₀ : List ℕ) (p : Packer) (rest : List ℕ) (i d : List ℕ) : Type 0 where
-  pub measured : Measuring ws p rest
+pub record Writing (p₀ : Packer) (ws : List ℕ) (i₀ d₀ : List ℕ) (p : Packer) (rest : List ℕ) (i d : List ℕ) : Type 0 where
+  pub measured : Measuring p₀ ws p rest
   pub long-imps : length i ≡ length i₀
   pub long-dict : length d ≡ length d₀
-  pub to-imps : sets i (p .kept) (imps-from largest (p .state) rest) ≡ sets i₀ 0 (pack largest ws .imps)
-  pub to-dict : sets d (p .words) (dict-from largest (p .state) rest) ≡ sets d₀ 0 (pack largest ws .dict)
+  pub to-imps : sets i (p .kept) (imps-from largest (p .state) rest) ≡ sets i₀ (p₀ .kept) (imps-from largest (p₀ .state) ws)
+  pub to-dict : sets d (p .words) (dict-from largest (p .state) rest) ≡ sets d₀ (p₀ .words) (dict-from largest (p₀ .state) ws)
 
-pub writing-starts : (ws i₀ d₀ : List ℕ) → Writing ws i₀ d₀ (packer fresh 0 0) ws i₀ d₀
-writing-starts ws i₀ d₀ = record {
-  measured = measuring-starts ws;
+pub writing-starts : (p₀ : Packer) (ws i₀ d₀ : List ℕ) → Steady (p₀ .state) → Writing p₀ ws i₀ d₀ p₀ ws i₀ d₀
+writing-starts p₀ ws i₀ d₀ h = record {
+  measured = measuring-starts p₀ ws h;
   long-imps = refl;
   long-dict = refl;
-  to-imps = ap (sets i₀ 0) (imps-packs ws);
-  to-dict = ap (sets d₀ 0) (dict-packs ws);
+  to-imps = refl;
+  to-dict = refl;
 }
 
-module _ (ws i₀ d₀ : List ℕ) (p : Packer) (y : ℕ) (rest i d : List ℕ) where
-  pub writing-turns : Writing ws i₀ d₀ p (y ∷ rest) i d → (i′ d′ : List ℕ) → i′ ≡ sets i (p .kept) (added (move-on largest (p .state) y .keeps) y) → d′ ≡ sets d (p .words) (settled (move-on largest (p .state) y .word)) → Writing ws i₀ d₀ (after p (move-on largest (p .state) y)) rest i′ d′
+module _ (p₀ : Packer) (ws i₀ d₀ : List ℕ) (p : Packer) (y : ℕ) (rest i d : List ℕ) where
+  pub writing-turns : Writing p₀ ws i₀ d₀ p (y ∷ rest) i d → (i′ d′ : List ℕ) → i′ ≡ sets i (p .kept) (added (move-on largest (p .state) y .keeps) y) → d′ ≡ sets d (p .words) (settled (move-on largest (p .state) y .word)) → Writing p₀ ws i₀ d₀ (after p (move-on largest (p .state) y)) rest i′ d′
   writing-turns w i′ d′ ei ed =
       let t = move-on largest (p .state) y in
       record {
-        measured = measuring-turns ws p y rest (w .measured);
+        measured = measuring-turns p₀ ws p y rest (w .measured);
         long-imps = rw ei (length-sets i (p .kept) (added (t .keeps) y) ∙ w .long-imps);
         long-dict = rw ed (length-sets d (p .words) (settled (t .word)) ∙ w .long-dict);
         to-imps = rw (ei, ← length-added (t .keeps) y) (sym (sets-append (added (t .keeps) y) (imps-from largest (t .next) rest) i (p .kept)) ∙ w .to-imps);
         to-dict = rw ed (sym (sets-append (settled (t .word)) (dict-from largest (t .next) rest) d (p .words)) ∙ w .to-dict);
       }
 
--- ---- the same over the places of a list
+-- ---- the same over the places of a list `all`, from any place on
 
-module _ (ws : List ℕ) (p : Packer) (i : ℕ) where
-  next-is : i < length ws → drop i ws ≡ getD ws i 0 ∷ drop (i + 1) ws
-  next-is h = rw (add-one i) (drop-cons ws i 0 h)
+module _ (p₀ : Packer) (ws all : List ℕ) (p : Packer) (i : ℕ) where
+  next-is : i < length all → drop i all ≡ getD all i 0 ∷ drop (i + 1) all
+  next-is h = rw (add-one i) (drop-cons all i 0 h)
 
-  pub measuring-next : i < length ws → Measuring ws p (drop i ws) → Measuring ws (after p (move-on largest (p .state) (getD ws i 0))) (drop (i + 1) ws)
-  measuring-next h m = measuring-turns ws p (getD ws i 0) (drop (i + 1) ws) (rw (next-is h) at m)
+  pub measuring-next : i < length all → Measuring p₀ ws p (drop i all) → Measuring p₀ ws (after p (move-on largest (p .state) (getD all i 0))) (drop (i + 1) all)
+  measuring-next h m = measuring-turns p₀ ws p (getD all i 0) (drop (i + 1) all) (rw (next-is h) at m)
 
-  pub measuring-ends : length ws ≤ i → Measuring ws p (drop i ws) → Measuring ws p []
-  measuring-ends h m = rw (drop-of-length-le ws h) at m
+  pub measuring-ends : length all ≤ i → Measuring p₀ ws p (drop i all) → Measuring p₀ ws p []
+  measuring-ends h m = rw (drop-of-length-le all h) at m
 
   module _ (i₀ d₀ is ds : List ℕ) where
-    pub writing-next : i < length ws → Writing ws i₀ d₀ p (drop i ws) is ds → (is′ ds′ : List ℕ) → is′ ≡ sets is (p .kept) (added (move-on largest (p .state) (getD ws i 0) .keeps) (getD ws i 0)) → ds′ ≡ sets ds (p .words) (settled (move-on largest (p .state) (getD ws i 0) .word)) → Writing ws i₀ d₀ (after p (move-on largest (p .state) (getD ws i 0))) (drop (i + 1) ws) is′ ds′
-    writing-next h w = writing-turns ws i₀ d₀ p (getD ws i 0) (drop (i + 1) ws) is ds (rw (next-is h) at w)
+    pub writing-next : i < length all → Writing p₀ ws i₀ d₀ p (drop i all) is ds → (is′ ds′ : List ℕ) → is′ ≡ sets is (p .kept) (added (move-on largest (p .state) (getD all i 0) .keeps) (getD all i 0)) → ds′ ≡ sets ds (p .words) (settled (move-on largest (p .state) (getD all i 0) .word)) → Writing p₀ ws i₀ d₀ (after p (move-on largest (p .state) (getD all i 0))) (drop (i + 1) all) is′ ds′
+    writing-next h w = writing-turns p₀ ws i₀ d₀ p (getD all i 0) (drop (i + 1) all) is ds (rw (next-is h) at w)
 
-    pub writing-ends : length ws ≤ i → Writing ws i₀ d₀ p (drop i ws) is ds → Writing ws i₀ d₀ p [] is ds
-    writing-ends h w = rw (drop-of-length-le ws h) at w
+    pub writing-ends : length all ≤ i → Writing p₀ ws i₀ d₀ p (drop i all) is ds → Writing p₀ ws i₀ d₀ p [] is ds
+    writing-ends h w = rw (drop-of-length-le all h) at w

@@ -10,18 +10,21 @@ use lib.ListN.{length, take}
 use lib.Signed.{ltZ}
 use Rattle.words.specs.Numbers.{numbered, no-filter}
 use Rattle.words.specs.Lists.{different}
-use Rattle.bins.specs.Bins.{readings, InKind}
-use Rattle.run_search.specs.Search.{search-by, scan}
+use Rattle.bins.specs.Bins.{readings, InKind, most-rows}
+use Rattle.run_search.specs.Search.{scan}
+use Rattle.column_index.specs.Index.{Own}
 use Rattle.column_index.specs.Exact.{Lists-the-scan}
-use Rattle.column_index.specs.Promise.{build-number, Builds, pack-number, Packs, unpack-number, Unpacks, search-number, Searches}
+use Rattle.column_index.specs.Promise.{build-number, Builds, append-number, Appends, pack-number, Packs, unpack-number, Unpacks, search-number, Searches}
 use Rattle.column_index.specs.declared.BuildAnswer.{BuildAnswer}
 use Rattle.column_index.specs.declared.BuildAnswer.the-variants as build
+use Rattle.column_index.specs.declared.AppendAnswer.{AppendAnswer}
+use Rattle.column_index.specs.declared.AppendAnswer.the-variants as appending
 use Rattle.column_index.specs.declared.PackAnswer.{PackAnswer}
 use Rattle.column_index.specs.declared.UnpackAnswer.{UnpackAnswer}
 use Rattle.column_index.specs.declared.SearchAnswer.{SearchAnswer}
-use Rattle.column_index.proofs.BuiltLaws.{built-scan}
-use Rattle.column_index.proofs.MadeLaws.{builds-all, searches-built}
-use Rattle.column_index.proofs.PromiseLaws.{builds-keeps, packs-keeps, unpacks-keeps, searches-keeps}
+use Rattle.column_index.proofs.OwnLaws.{own-scan, builds-own, searches-own, searches-built}
+use Rattle.column_index.proofs.AppendLaws.{appends-all, appends-own}
+use Rattle.column_index.proofs.PromiseLaws.{builds-keeps, appends-keeps, packs-keeps, unpacks-keeps, searches-keeps}
 use Rattle.range_filter.specs.Calls.{freshMemory}
 use Rattle.range_filter.specs.Promise.{Fresh, madeNumber, Ask, askedNumber, Learn, learntNumber, Arrive, arrivedNumber, Depart, departedNumber, Forget, forgotNumber, Read, readingNumber}
 use Rattle.range_filter.specs.History.{NoneIn}
@@ -50,15 +53,14 @@ use Rattle.guarded_search.proofs.Never.{left-filter, search-not-8}
 use Rattle.guarded_search.proofs.Only.{guards-refused}
 use Rattle.guarded_search.proofs.Sound.{denied-empty, search-denied-empty}
 
--- with the index that build left, the fronts of the three lent spaces, the range search lists what a plain scan lists
-own-scan : {col bs bs′ : List ℤ} {is ds is′ ds′ : List ℕ} {b i d : ℕ} → InKind readings col → Builds readings col bs is ds (build.Done b i d) bs′ is′ ds′ → (low high : ℤ) → search-by readings (take b bs′) (take d ds′) (take i is′) col low high .ids ≡ scan readings low high 0 col
-own-scan {col} kind p low high = let a = builds-all p in rw (a .borders-front, a .imprints-front, a .dictionary-front) (built-scan readings (lit< tt) col low high kind)
-
 -- ---- DEMAND 1: every call ends and is safe, which is what it is for a call to be proved; and an answer other than 0 changes no lent word.
 -- (Ask, departure and read are lent the words for reading alone.)
 
 pub demand-1-build : {col bs bs′ : List ℤ} {is ds is′ ds′ : List ℕ} {r : BuildAnswer} → Builds readings col bs is ds r bs′ is′ ds′ → (numbered (build-number r) ≡ 0 → ⊥) → (bs′ ≡ bs) × (is′ ≡ is) × (ds′ ≡ ds)
 demand-1-build p ne = builds-keeps p ne
+
+pub demand-1-append : {col bs : List ℤ} {covered ti td : ℕ} {is ds is′ ds′ : List ℕ} {r : AppendAnswer} → Appends readings col covered bs is ti ds td r is′ ds′ → (numbered (append-number r) ≡ 0 → ⊥) → (is′ ≡ is) × (ds′ ≡ ds)
+demand-1-append p ne = appends-keeps p ne
 
 pub demand-1-pack : {ws is ds is′ ds′ : List ℕ} {bs : List ℤ} {r : PackAnswer} → Packs readings ws bs is ds r is′ ds′ → (numbered (pack-number r) ≡ 0 → ⊥) → (is′ ≡ is) × (ds′ ≡ ds)
 demand-1-pack p ne = packs-keeps p ne
@@ -109,8 +111,20 @@ module _ {w : List ℕ} (h : Left-with-both w) where
 
 -- ---- DEMAND 2
 
--- with the index that build left, the range search lists exactly the rows that a plain scan lists, rising
+-- with the column's own index, built from it with the borders it carries, the range search lists exactly the rows that a plain scan lists, rising
 pub demand-2-rows :
+    {col bs : List ℤ} {is ds rows rows′ : List ℕ} {low high : ℤ} {r : SearchAnswer} →
+    InKind readings col →
+    length col ≤ most-rows →
+    Own readings col bs is ds →
+    ltZ high low ≡ false →
+    length (scan readings low high 0 col) ≤ length rows →
+    Searches readings col bs is ds low high rows r rows′ →
+    Lists-the-scan readings col low high r rows′
+demand-2-rows kind few o order room q = searches-own o few q (lit< tt) kind order room
+
+-- as build left it: the fronts of the three lent spaces
+pub demand-2-rows-built :
     {col bs bs′ : List ℤ} {is ds is′ ds′ rows rows′ : List ℕ} {b i d : ℕ} {low high : ℤ} {r : SearchAnswer} →
     InKind readings col →
     Builds readings col bs is ds (build.Done b i d) bs′ is′ ds′ →
@@ -118,10 +132,32 @@ pub demand-2-rows :
     length (scan readings low high 0 col) ≤ length rows →
     Searches readings col (take b bs′) (take i is′) (take d ds′) low high rows r rows′ →
     Lists-the-scan readings col low high r rows′
-demand-2-rows kind p order room q = searches-built p q (lit< tt) kind order room
+demand-2-rows-built kind p order room q = searches-built p q (lit< tt) kind order room
 
--- and so does every search with both that is done, denied ones among them, in any list of searches over an unchanged column, from a fresh filter of any room
+-- as append left it, where the told words were the covered rows' own index
+pub demand-2-rows-appended :
+    {col bs : List ℤ} {is ds is′ ds′ rows rows′ : List ℕ} {covered ti td i d : ℕ} {low high : ℤ} {r : SearchAnswer} →
+    InKind readings col →
+    Own readings (take covered col) bs (take ti is) (take td ds) →
+    Appends readings col covered bs is ti ds td (appending.Done i d) is′ ds′ →
+    ltZ high low ≡ false →
+    length (scan readings low high 0 col) ≤ length rows →
+    Searches readings col bs (take i is′) (take d ds′) low high rows r rows′ →
+    Lists-the-scan readings col low high r rows′
+demand-2-rows-appended kind o p order room q = searches-own (appends-own (lit< tt) o p) (appends-all p .few) q (lit< tt) kind order room
+
+-- and so does every search with both that is done, denied ones among them, in any list of searches over an unchanged column with its own index, from a fresh filter of any room
 pub demand-2-exact :
+    {col bs : List ℤ} {is ds w w′ : List ℕ} {k room : ℕ} {r : Made} (ts : List Turn) →
+    InKind readings col →
+    Own readings col bs is ds →
+    Fresh k room w r w′ →
+    madeNumber r ≡ 0 →
+    Searching col bs is ds w′ ts →
+    All-exact col ts
+demand-2-exact {col} {bs} {is} {ds} {w} {w′} {k} {room} {r} ts kind o q z s = exact col bs is ds (λ lo hi. own-scan (lit< tt) kind o (pos lo) (pos hi)) ts w′ (freshMemory k room) (made-filter q z) (fresh-calm k (keys k col)) s
+
+pub demand-2-exact-built :
     {col bs bs′ : List ℤ} {is ds is′ ds′ w w′ : List ℕ} {b i d k room : ℕ} {r : Made} (ts : List Turn) →
     InKind readings col →
     Builds readings col bs is ds (build.Done b i d) bs′ is′ ds′ →
@@ -129,7 +165,7 @@ pub demand-2-exact :
     madeNumber r ≡ 0 →
     Searching col (take b bs′) (take i is′) (take d ds′) w′ ts →
     All-exact col ts
-demand-2-exact {col} {bs} {bs′} {is} {ds} {is′} {ds′} {w} {w′} {b} {i} {d} {k} {room} {r} ts kind p q z s = exact col (take b bs′) (take i is′) (take d ds′) (λ lo hi. own-scan kind p (pos lo) (pos hi)) ts w′ (freshMemory k room) (made-filter q z) (fresh-calm k (keys k col)) s
+demand-2-exact-built ts kind p q z s = demand-2-exact ts kind (builds-own p) q z s
 
 -- in every history, searches with both among its calls, a range that ask denies holds no sample present
 pub demand-2-denied : {w samples : List ℕ} (lo hi : ℕ) → History w samples → Ask w lo hi asked.Denied → NoneIn lo hi samples
@@ -141,9 +177,29 @@ demand-2-search-denied lo hi n s e c h p = search-denied-empty lo hi n s e c h p
 
 -- ---- DEMAND 3
 
--- An unchanged column; its own index, as build left it; a filter of k levels, as fresh left it, with room for at least k x n splits, where n is the number of different keys of the
--- column; and any list of searches with both, each from the words that the one before left. Then wasted looks are few.
+-- An unchanged column; its own index, built from it with the borders it carries; a filter of k levels, as fresh left it, with room for at least k x n splits, where n is the number of
+-- different keys of the column; and any list of searches with both, each from the words that the one before left. Then wasted looks are few.
 pub demand-3 :
+    {col bs : List ℤ} {is ds w w′ : List ℕ} {k room : ℕ} {r : Made} (ts : List Turn) →
+    InKind readings col →
+    Own readings col bs is ds →
+    Fresh k room w r w′ →
+    madeNumber r ≡ 0 →
+    k * different (2 ^ k) (keys k col) ≤ room →
+    Searching col bs is ds w′ ts →
+    Few-wasted (keys k col) (different (2 ^ k) (keys k col)) ts
+demand-3 {col} {bs} {is} {ds} {w} {w′} {k} {room} {r} ts kind o q z enough s =
+    let state : State col w′ (freshMemory k room) = record { filter = made-filter q z; calm = fresh-calm k (keys k col); enough = enough } in
+    let x = bounded col bs is ds (λ lo hi. own-scan (lit< tt) kind o (pos lo) (pos hi)) ts w′ (freshMemory k room) state s in
+    record {
+      none-unlearnt = x .none-unlearnt;
+      at-most = omega (arith, x .at-most, at-first k (keys k col) (λ x. false));
+      of-gaps = x .of-gaps;
+      no-gap-twice = x .no-gap-twice;
+    }
+
+-- the same of the index that build left
+pub demand-3-built :
     {col bs bs′ : List ℤ} {is ds is′ ds′ w w′ : List ℕ} {b i d k room : ℕ} {r : Made} (ts : List Turn) →
     InKind readings col →
     Builds readings col bs is ds (build.Done b i d) bs′ is′ ds′ →
@@ -152,12 +208,4 @@ pub demand-3 :
     k * different (2 ^ k) (keys k col) ≤ room →
     Searching col (take b bs′) (take i is′) (take d ds′) w′ ts →
     Few-wasted (keys k col) (different (2 ^ k) (keys k col)) ts
-demand-3 {col} {bs} {bs′} {is} {ds} {is′} {ds′} {w} {w′} {b} {i} {d} {k} {room} {r} ts kind p q z enough s =
-    let state : State col w′ (freshMemory k room) = record { filter = made-filter q z; calm = fresh-calm k (keys k col); enough = enough } in
-    let x = bounded col (take b bs′) (take i is′) (take d ds′) (λ lo hi. own-scan kind p (pos lo) (pos hi)) ts w′ (freshMemory k room) state s in
-    record {
-      none-unlearnt = x .none-unlearnt;
-      at-most = omega (arith, x .at-most, at-first k (keys k col) (λ x. false));
-      of-gaps = x .of-gaps;
-      no-gap-twice = x .no-gap-twice;
-    }
+demand-3-built ts kind p q z enough s = demand-3 ts kind (builds-own p) q z enough s

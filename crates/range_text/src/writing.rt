@@ -117,7 +117,7 @@ fn put_size(out: &mut [u8], rows: usize, borders: usize) -> usize
     requires { ⌜ (rows < 10000) × (borders < 10000) × Room (now out) 0 (three rows-word rows lines-word (ceil rows (readings .per)) borders-word borders) ⌝ }
     ensures { λ r. ⌜ Puts (now (out .entry)) 0 (three rows-word rows lines-word (ceil rows (readings .per)) borders-word borders) r (now (out .exit)) ⌝ }
 {
-    let lines = reading_index::made::line_count(rows);
+    let lines = reading_lines::line_count(rows);
     put_three(
         out,
         0,

@@ -5,7 +5,7 @@ ghost use Prim.Native.Nat.{_*_, _≤_};
 ghost use mathlib.Core.Bool.{_&&_};
 ghost use lib.Signed.{leZ};
 ghost use lib.ListN.{length, take, drop};
-ghost use Rattle.bins.specs.Bins.{readings, bin, imprint, rising, good-borders};
+ghost use Rattle.bins.specs.Bins.{readings, bin, bins, imprint, rising, good-borders};
 ghost use Rattle.bins.specs.Masks.{matches, mask, inner, first-of, last-of};
 
 pub mod borders;
@@ -26,6 +26,14 @@ pub fn bin_of(borders: &[i32], v: i32) -> u32
         i += 1;
     }
     n
+}
+
+// One more bins than borders.
+pub fn bin_count(borders: &[i32]) -> u32
+    requires { ⌜ length (now borders) ≤ 63 ⌝ }
+    ensures { λ r. ⌜ r ≡ bins (now (borders .entry)) ⌝ }
+{
+    (borders.len() + 1) as u32
 }
 
 // The imprint of a line's rows: bit b is set exactly when some row is in bin b.

@@ -24,12 +24,12 @@ pub fn checked(column: &[i32], borders: &[i32], imprints: &[u64], dictionary: &[
         return IndexCheck::TooLong;
     }
     if reading_bins::good_borders(borders) {
-        let n = borders.len() as u32 + 1;
+        let n = reading_bins::bin_count(borders);
         if dictionary::accepting::accepted(
             dictionary,
             imprints,
             n,
-            made::line_count(column.len()),
+            reading_lines::line_count(column.len()),
         ) {
             return IndexCheck::Fine;
         }

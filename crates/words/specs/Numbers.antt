@@ -1,8 +1,8 @@
--- Document 01, "Numbers it comes back with". Assumes nothing.
+-- Document 01, "Numbers it comes back with", and those that document 02 adds. Assumes nothing.
 use Prim.Native.Nat.{ℕ}
 
 pub data Number : Type 0 where
-  done low-above-high column-too-long no-index space-too-short bad-borders bad-levels no-key no-filter no-room nothing-to-forget room-too-large unreadable : Number
+  done low-above-high column-too-long no-index space-too-short bad-borders bad-levels no-key no-filter no-room nothing-to-forget room-too-large unreadable covered-above-rows : Number
 
 abbrev pub numbered : Number → ℕ
 numbered done = 0
@@ -18,3 +18,4 @@ numbered no-room = 9
 numbered nothing-to-forget = 10
 numbered room-too-large = 11
 numbered unreadable = 12
+numbered covered-above-rows = 17

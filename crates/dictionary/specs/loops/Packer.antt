@@ -74,3 +74,19 @@ packer s d i = record { state = s; words = d; kept = i }
 
 abbrev pub after : Packer → Turn → Packer
 after p t = packer (t .next) (p .words + length (settled (t .word))) (p .kept + cond (t .keeps) 1 0)
+
+-- the packer after these imprints too
+abbrev pub gone-on : ℕ → Packer → List ℕ → Packer
+gone-on full p [] = p
+gone-on full p (y ∷ ws) = gone-on full (after p (move-on full (p .state) y)) ws
+
+-- a packer before its first imprint
+abbrev pub starting : Packer
+starting = packer fresh 0 0
+
+-- how many imprints are kept and how many dictionary words stand in the end, where these imprints are still to come
+abbrev pub kept-then : ℕ → Packer → List ℕ → ℕ
+kept-then full p ws = p .kept + length (imps-from full (p .state) ws)
+
+abbrev pub words-then : ℕ → Packer → List ℕ → ℕ
+words-then full p ws = p .words + length (dict-from full (p .state) ws)

@@ -3,7 +3,6 @@ use Prim.Native.Nat.{ℕ, _≤_}
 use mathlib.Core.Path.{_≡_, sym, ap₂, _∙_}
 use mathlib.Core.Bool.{true, false}
 use native.Mathlib.Omega.{arith}
-use native.Mathlib.Numerals.{add-one}
 use lib.ListN.{length}
 use Rattle.bins.specs.Bins.{readings, good-borders}
 use Rattle.dictionary.specs.Dictionary.{accepted, largest}
@@ -24,32 +23,29 @@ few : (c : tie.Then2) → length (c .before .before .before .before .before .arg
 few c = good-few (c .before .before .before .before .before .args .borders .now) (sym (c .before .good-borders .ensures) ∙ c .if2 .taken)
 
 -- what `accepted` says, of the index and the column
-tested : (c : tie.After-accepted) → is-index-for readings (c .before .before .before .before .before .before .before .args .borders .now) (c .before .before .before .before .before .before .before .args .column .now) (c .before .before .before .before .before .before .before .args .dictionary .now) (c .before .before .before .before .before .before .before .args .imprints .now) ≡ c .accepted .result
+tested : (c : tie.After-accepted) → is-index-for readings (c .before .before .before .before .before .before .before .before .args .borders .now) (c .before .before .before .before .before .before .before .before .args .column .now) (c .before .before .before .before .before .before .before .before .args .dictionary .now) (c .before .before .before .before .before .before .before .before .args .imprints .now) ≡ c .accepted .result
 tested c =
-    let a = c .before .before .before .before .before .before .before .args in
-    sym (c .accepted .ensures ∙ ap₂ (λ (n l : ℕ). accepted largest n l (a .dictionary .now) (a .imprints .now)) (add-one (length (a .borders .now))) (c .before .line-count .ensures))
+    let a = c .before .before .before .before .before .before .before .before .args in
+    sym (c .accepted .ensures ∙ ap₂ (λ (n l : ℕ). accepted largest n l (a .dictionary .now) (a .imprints .now)) (c .before .before .bin-count .ensures) (c .before .line-count .ensures))
 
-cast-n : tie.Need-cast-n
-cast-n c = omega (arith, few c)
-
-add-n : tie.Need-add-n
-add-n c = omega (arith, few c)
+bin-count-requires : tie.Need-bin-count-requires
+bin-count-requires c κs = few c
 
 line-count-requires : tie.Need-line-count-requires
 line-count-requires c κs = search needs
 
 accepted-requires : tie.Need-accepted-requires
-accepted-requires c κs = omega (arith, few (c .before))
+accepted-requires c κs = omega (arith, c .before .bin-count .ensures, few (c .before .before))
 
 returns-2 : tie.Need-returns-2
 returns-2 c =
-    let a = c .before .before .before .before .before .before .before .before .args in
-    checked-rest readings (a .column .now) (a .borders .now) (a .imprints .now) (a .dictionary .now) (c .before .before .before .before .before .if1 .left) true true (sym (c .before .before .before .before .good-borders .ensures) ∙ c .before .before .before .if2 .taken) (tested (c .before) ∙ c .if3 .taken)
+    let a = c .before .before .before .before .before .before .before .before .before .args in
+    checked-rest readings (a .column .now) (a .borders .now) (a .imprints .now) (a .dictionary .now) (c .before .before .before .before .before .before .if1 .left) true true (sym (c .before .before .before .before .before .good-borders .ensures) ∙ c .before .before .before .before .if2 .taken) (tested (c .before) ∙ c .if3 .taken)
 
 returns-3 : tie.Need-returns-3
 returns-3 c =
-    let a = c .before .before .before .before .before .before .before .before .args in
-    checked-rest readings (a .column .now) (a .borders .now) (a .imprints .now) (a .dictionary .now) (c .before .before .before .before .before .if1 .left) true false (sym (c .before .before .before .before .good-borders .ensures) ∙ c .before .before .before .if2 .taken) (tested (c .before) ∙ c .if3 .left)
+    let a = c .before .before .before .before .before .before .before .before .before .args in
+    checked-rest readings (a .column .now) (a .borders .now) (a .imprints .now) (a .dictionary .now) (c .before .before .before .before .before .before .if1 .left) true false (sym (c .before .before .before .before .before .good-borders .ensures) ∙ c .before .before .before .before .if2 .taken) (tested (c .before) ∙ c .if3 .left)
 
 returns-4 : tie.Need-returns-4
 returns-4 c = let a = c .before .before .before .before .before .args in checked-borders readings (a .column .now) (a .borders .now) (a .imprints .now) (a .dictionary .now) (c .before .before .if1 .left) (sym (c .before .good-borders .ensures) ∙ c .if2 .left)
@@ -60,8 +56,7 @@ checked-spec =
     (tie.spec
     returns
     good-borders-requires
-    cast-n
-    add-n
+    bin-count-requires
     line-count-requires
     accepted-requires
     returns-2
