@@ -1,5 +1,7 @@
-//! Build and search beside an ordinary Rust scan, in one run, as ratios; prints a table in markdown, its progress on standard error.
+//! Build and search beside an ordinary Rust scan, append beside build, in one run, as ratios. Prints tables in markdown; its progress goes to
+//! standard error.
 //! `MGZ_BENCH_ROWS`, `MGZ_BENCH_REPS` and `MGZ_BENCH_CALLS` make it shorter or longer.
+mod appends;
 mod filters;
 mod inputs;
 
@@ -108,7 +110,7 @@ fn main() {
     let calls = setting("MGZ_BENCH_CALLS", 2000);
     let mut spaces = Spaces { ids: vec![1; rows], scanned: Vec::with_capacity(rows) };
     println!("{rows} rows, best of {reps}, processor time; {}.\n", machine());
-    let (mut built, mut guarded) = (String::new(), String::new());
+    let (mut built, mut appended, mut guarded) = (String::new(), String::new(), String::new());
     println!("| column | range hits | rows | search, ms | scan, ms | search / scan | lines skipped / whole / compared |");
     println!("|---|---|---|---|---|---|---|");
     for name in inputs::COLUMNS {
@@ -129,6 +131,8 @@ fn main() {
         let share = 100.0 * bytes as f64 / (4 * rows) as f64;
         let per_row = best * 1e9 / rows as f64;
         built += &format!("| {name} | {:.1} | {per_row:.2} | {:.1} | {share:.3}% |\n", best * 1e3, best / least);
+        eprintln!("{name}: appending an hour, {reps} times");
+        appended += &appends::measure(name, &column, best, reps);
         for (percent, of_million) in [("0.001%", 10), ("0.1%", 1_000), ("0.9%", 9_000), ("10%", 100_000), ("50%", 500_000)] {
             eprintln!("{name}: ranges of {percent}, {reps} times");
             let range = inputs::range(&sorted, of_million);
@@ -142,6 +146,9 @@ fn main() {
     println!("\n| column | build, ms | ns per row | build / scan of an empty range | index, of the column |");
     println!("|---|---|---|---|---|");
     println!("{built}");
+    println!("| column, all but its last 60 rows indexed | append, ms | build anew, ms | append / build | |");
+    println!("|---|---|---|---|---|");
+    println!("{appended}");
     println!("| an empty range of the drifting column: look and learn, ms | denied, ms | search without the filter, ms |");
     println!("|---|---|---|\n{guarded}\n");
     filters::measure(reps, calls);

@@ -1,34 +1,34 @@
-/* Column A of document 01 (32 rows of 5, then 8 rows of 20), its index, its rows with the value 20, and an empty stretch asked for twice. */
+/* Column A of document 01 (32 rows of 5, then 8 rows of 20), its index, its rows with the value 20, and an empty stretch asked for twice;
+ * then 60 more rows of 20 come, and the index grows where it stands. */
 #include "miguzoryane.h"
 
 #include <stdio.h>
 
-enum { ROWS = 40, LINES = MGZ_LINES(ROWS), ROOM = 20, WORDS = 2 * ROOM + 4 };
+enum { ROWS = 40, LINES = MGZ_LINES(ROWS), MORE_ROWS = 100, MORE_LINES = MGZ_LINES(MORE_ROWS), ROOM = 20, WORDS = 2 * ROOM + 4 };
 
 static const char *const outcomes[] = {"denied", "found", "empty and learnt", "empty and not learnt"};
 
+static int refused(uint32_t number) {
+    if (number != MGZ_DONE) printf("refused %u\n", (unsigned)number);
+    return number != MGZ_DONE;
+}
+
 int main(void) {
-    int32_t column[ROWS];
-    for (int row = 0; row < ROWS; row++) column[row] = row < 32 ? 5 : 20;
+    int32_t column[MORE_ROWS];
+    for (int row = 0; row < MORE_ROWS; row++) column[row] = row < 32 ? 5 : 20;
 
     int32_t borders[MGZ_BORDERS_AT_MOST];
-    uint64_t imprints[LINES];
-    uint32_t dictionary[LINES];
+    uint64_t imprints[MORE_LINES];
+    uint32_t dictionary[MORE_LINES];
     struct mgz_built built;
-    uint32_t number = mgz_build(column, ROWS, borders, MGZ_BORDERS_AT_MOST, imprints, LINES, dictionary, LINES, &built);
-    if (number != MGZ_DONE) {
-        printf("refused %u\n", (unsigned)number);
-        return 1;
-    }
+    uint32_t number = mgz_build(column, ROWS, borders, MGZ_BORDERS_AT_MOST, imprints, MORE_LINES, dictionary, MORE_LINES, &built);
+    if (refused(number)) return 1;
 
-    uint32_t ids[ROWS];
+    uint32_t ids[MORE_ROWS];
     struct mgz_found found;
     number = mgz_search(column, ROWS, borders, built.borders, imprints, built.imprints, dictionary, built.dictionary, 20, 20, ids, ROWS,
                         &found);
-    if (number != MGZ_DONE) {
-        printf("refused %u\n", (unsigned)number);
-        return 1;
-    }
+    if (refused(number)) return 1;
     printf("rows %d lines %d borders %u\n", ROWS, LINES, (unsigned)built.borders);
     printf("whole %u compared %u skipped %u\n", (unsigned)found.whole, (unsigned)found.compared, (unsigned)found.skipped);
     for (uint64_t row = 0; row < found.rows; row++) printf("%u\n", (unsigned)ids[row]);
@@ -36,12 +36,23 @@ int main(void) {
     uint32_t words[WORDS];
     uint64_t needed;
     number = mgz_filter_fresh(5, ROOM, words, WORDS, &needed);
-    for (int time = 0; time < 2 && number == MGZ_DONE; time++) {
+    if (refused(number)) return 1;
+    for (int time = 0; time < 2; time++) {
         struct mgz_guarded guarded;
         number = mgz_guarded_search(words, WORDS, column, ROWS, borders, built.borders, imprints, built.imprints, dictionary,
                                     built.dictionary, 8, 10, ids, ROWS, &guarded);
-        if (number == MGZ_DONE) printf("8 to 10: %s\n", outcomes[guarded.outcome]);
+        if (refused(number)) return 1;
+        printf("8 to 10: %s\n", outcomes[guarded.outcome]);
     }
-    if (number != MGZ_DONE) printf("refused %u\n", (unsigned)number);
-    return number != MGZ_DONE;
+
+    struct mgz_appended grown;
+    number = mgz_append(column, MORE_ROWS, ROWS, borders, built.borders, imprints, MORE_LINES, built.imprints, dictionary, MORE_LINES,
+                        built.dictionary, &grown);
+    if (refused(number)) return 1;
+    number = mgz_search(column, MORE_ROWS, borders, built.borders, imprints, grown.imprints, dictionary, grown.dictionary, 20, 20, ids,
+                        MORE_ROWS, &found);
+    if (refused(number)) return 1;
+    printf("rows %d lines %d imprints %u dictionary %u\n", MORE_ROWS, MORE_LINES, (unsigned)grown.imprints, (unsigned)grown.dictionary);
+    printf("20: %u rows, the last is %u\n", (unsigned)found.rows, (unsigned)ids[found.rows - 1]);
+    return 0;
 }

@@ -19,12 +19,13 @@
 extern "C" {
 #endif
 
-/* The numbers, document 01's. */
+/* The numbers, those of documents 01 and 02. */
 enum mgz_number {
     MGZ_DONE = 0,
     MGZ_LOW_ABOVE_HIGH = 1,     /* the low end is above the high end */
     MGZ_COLUMN_TOO_LONG = 2,    /* more than MGZ_ROWS_AT_MOST rows, or MGZ_LINES_AT_MOST lines */
-    MGZ_NOT_AN_INDEX = 3,       /* not a packed form for so many lines; pack: a word no line could have; step: a bad position */
+    MGZ_NOT_AN_INDEX = 3,       /* not a packed form for so many lines; pack: a word no line could have; step: a bad position;
+                                   append: also a told length beyond its space */
     MGZ_SPACE_SHORT = 4,        /* a lent space is shorter than the answer needs; `needed` is the length it needs */
     MGZ_BAD_BORDERS = 5,        /* over MGZ_BORDERS_AT_MOST borders, or not strictly rising */
     MGZ_BAD_LEVELS = 6,         /* levels outside 1 to MGZ_LEVELS_AT_MOST */
@@ -32,7 +33,8 @@ enum mgz_number {
     MGZ_NOT_A_FILTER = 8,       /* the words are not the layout of a smallest tree */
     MGZ_NO_ROOM = 9,            /* learning would need more splits than the room */
     MGZ_NOTHING_TO_FORGET = 10, /* the tree is a single leaf */
-    MGZ_ROOM_TOO_LARGE = 11     /* room above MGZ_ROOM_AT_MOST */
+    MGZ_ROOM_TOO_LARGE = 11,    /* room above MGZ_ROOM_AT_MOST */
+    MGZ_COVERED_ABOVE_ROWS = 17 /* the index is said to cover more rows than the column has */
 };
 
 #define MGZ_ROWS_PER_LINE 16
@@ -55,6 +57,13 @@ struct mgz_built {
 
 /* Lengths of the two parts of a packed list. */
 struct mgz_packed {
+    uint64_t needed;
+    uint64_t imprints;
+    uint64_t dictionary;
+};
+
+/* New lengths of the two parts of an index that was extended. */
+struct mgz_appended {
     uint64_t needed;
     uint64_t imprints;
     uint64_t dictionary;
@@ -109,6 +118,17 @@ struct mgz_guarded {
 uint32_t mgz_build(const int32_t *column, size_t column_length, int32_t *borders, size_t borders_length, uint64_t *imprints,
                    size_t imprints_length, uint32_t *dictionary, size_t dictionary_length, struct mgz_built *out);
 
+/* Samples keep coming: extends an index of the first `covered` rows to the whole column, where it stands. Lines that were full keep their
+ * imprints, and their rows are not read again; every later line is imprinted from the column, a last short one that was covered included.
+ * The borders stay. Rows may come in pieces cut anywhere: if none is refused, the index at the end is the same.
+ * The two spaces may be longer than the index: `imprints_told` and `dictionary_told` are the lengths of its parts so far, `out` gives the
+ * new ones, and words past these stay as they were. `needed` is the whole new length of the first short space, imprints before dictionary;
+ * MGZ_LINES(column_length) is always enough. Quickest is room in both for the told words and one more for each line to be imprinted.
+ * Numbers: 2, 17, 5, 3, 4. */
+uint32_t mgz_append(const int32_t *column, size_t column_length, uint64_t covered, const int32_t *borders, size_t borders_length,
+                    uint64_t *imprints, size_t imprints_length, uint64_t imprints_told, uint32_t *dictionary, size_t dictionary_length,
+                    uint64_t dictionary_told, struct mgz_appended *out);
+
 /* Packs a list of imprints, one per line. Numbers: 2, 5, 3, 4. */
 uint32_t mgz_pack(const uint64_t *list, size_t list_length, const int32_t *borders, size_t borders_length, uint64_t *imprints,
                   size_t imprints_length, uint32_t *dictionary, size_t dictionary_length, struct mgz_packed *out);
@@ -122,9 +142,9 @@ uint32_t mgz_unpack(const int32_t *borders, size_t borders_length, const uint64_
 uint32_t mgz_step(const uint32_t *dictionary, size_t dictionary_length, const uint64_t *imprints, size_t imprints_length, uint64_t entry,
                   uint64_t place, uint64_t number, struct mgz_stepped *out);
 
-/* The rows whose values lie in low to high, both included, rising, at the front of `ids`: so with the index built from the column. With any
- * other index that is not refused, the rows of the lines that it takes whole, and the matching rows of those that it has compared.
- * Numbers: 2, 5, 3, 1, 4. */
+/* The rows whose values lie in low to high, both included, rising, at the front of `ids`: so with an index built from the column, or built
+ * from its first rows and extended to it. With any other index that is not refused, the rows of the lines that it takes whole, and the
+ * matching rows of those that it has compared. Numbers: 2, 5, 3, 1, 4. */
 uint32_t mgz_search(const int32_t *column, size_t column_length, const int32_t *borders, size_t borders_length, const uint64_t *imprints,
                     size_t imprints_length, const uint32_t *dictionary, size_t dictionary_length, int32_t low, int32_t high,
                     uint32_t *ids, size_t ids_length, struct mgz_found *out);

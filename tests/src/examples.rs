@@ -1,4 +1,5 @@
-//! Document 01's examples, of the plain implementation.
+//! Document 01's examples, and what document 02 says of append, of the plain implementation.
+use crate::inputs::in_spaces;
 use crate::plain::*;
 
 fn column_a() -> Vec<i32> {
@@ -111,4 +112,26 @@ fn samples_and_lengths() {
     let nothing = Index { borders: vec![], imprints: vec![], dictionary: vec![] };
     assert_eq!(build(&[], [0, 0, 0]), Ok(nothing));
     assert_eq!(build(&vec![0; 16_777_217], [63, 9, 9]).unwrap_err().number, 2);
+}
+
+fn appended(column: &[i32], covered: usize, old: &Index) -> Index {
+    let lines = lines(column.len());
+    append(column, covered as u64, &in_spaces(old, [lines, lines])).unwrap()
+}
+
+/// Whatever part was covered, the borders of the whole carried: what build gives. With those of the part, in pieces or at once: the same.
+#[test]
+fn append_is_building_with_the_borders_carried() {
+    let column: Vec<i32> = (0..130).map(|row| row * row % 11).collect();
+    let whole = index(&column);
+    for covered in 0..=column.len() {
+        let (imprints, dictionary) = packing(&line_imprints(&column[..covered], &whole.borders));
+        let old = Index { borders: whole.borders.clone(), imprints, dictionary };
+        assert_eq!(appended(&column, covered, &old), whole);
+        let own = index(&column[..covered]);
+        for middle in covered..=column.len() {
+            let first = appended(&column[..middle], covered, &own);
+            assert_eq!(appended(&column, middle, &first), appended(&column, covered, &own));
+        }
+    }
 }

@@ -1,7 +1,7 @@
 //! Each call made of the library and of the plain implementation, and everything compared: the number, every word
 //! of every lent space (of the read ones too), and the guard words on both sides of each. The answer handed back is the plain one.
 use crate::face::*;
-use crate::plain::{self, Filter, Found, Index, No, Outcome, Position};
+use crate::plain::{self, Filter, Found, Index, No, Outcome, Position, Told};
 use std::cell::RefCell;
 use std::fmt::Debug;
 
@@ -124,6 +124,22 @@ fn needed<T>(answer: &Result<T, No>) -> u64 {
     answer.as_ref().err().map_or(0, |no| no.needed)
 }
 
+/// How often each number came, so that no comparison is an empty one.
+#[derive(Default)]
+pub struct Numbers([usize; 18]);
+
+impl Numbers {
+    pub fn count<T>(&mut self, answer: &Result<T, No>) {
+        self.0[answer.as_ref().err().map_or(0, |no| no.number) as usize] += 1;
+    }
+
+    pub fn seen(&self, numbers: &[usize]) {
+        for (number, &times) in self.0.iter().enumerate() {
+            assert_eq!(times != 0, numbers.contains(&number), "number {number} came {times} times");
+        }
+    }
+}
+
 pub fn build(column: &[i32], spaces: [usize; 3]) -> Result<Index, No> {
     let answer = plain::build(column, spaces);
     let lent = Space::of(column);
@@ -147,8 +163,7 @@ pub fn build(column: &[i32], spaces: [usize; 3]) -> Result<Index, No> {
     let call = "mgz_build";
     number(call, got, &answer);
     lent.same(call, "column", column);
-    let nothing = Index { borders: vec![], imprints: vec![], dictionary: vec![] };
-    let index = answer.as_ref().unwrap_or(&nothing);
+    let index = answer.clone().unwrap_or_default();
     let lengths = [needed(&answer), index.borders.len() as u64, index.imprints.len() as u64, index.dictionary.len() as u64];
     out.same(call, "out", &lengths);
     borders.front(call, "borders", &index.borders);
@@ -185,6 +200,51 @@ pub fn pack(list: &[u64], borders: &[i32], spaces: [usize; 2]) -> Result<(Vec<u6
     out.same(call, "out", &lengths);
     imprints.front(call, "imprints", &kept);
     dictionary.front(call, "dictionary", &entries);
+    answer
+}
+
+/// What a space holds once the front is these words, and what follows stands as it was.
+fn with_front<T: Word>(front: &[T], before: &[T]) -> Vec<T> {
+    [front, &before[front.len()..]].concat()
+}
+
+/// Leaves in the spaces what the library left there, and tells the new lengths.
+pub fn append(column: &[i32], covered: u64, index: &mut Told) -> Result<Index, No> {
+    let answer = plain::append(column, covered, index);
+    let (lent, borders) = (Space::of(column), Space::of(&index.borders));
+    let mut imprints = Space::of(&index.imprints);
+    let mut dictionary = Space::of(&index.dictionary);
+    let mut out = Space::<u64>::stale(3);
+    let got = unsafe {
+        mgz_append(
+            lent.ptr(),
+            lent.len(),
+            covered,
+            borders.ptr(),
+            borders.len(),
+            imprints.mut_ptr(),
+            imprints.len(),
+            index.imprints_told,
+            dictionary.mut_ptr(),
+            dictionary.len(),
+            index.dictionary_told,
+            out.mut_ptr(),
+        )
+    };
+    let call = "mgz_append";
+    number(call, got, &answer);
+    lent.same(call, "column", column);
+    borders.same(call, "borders", &index.borders);
+    let after = answer.clone().unwrap_or_default();
+    out.same(call, "out", &[needed(&answer), after.imprints.len() as u64, after.dictionary.len() as u64]);
+    imprints.same(call, "imprints", &with_front(&after.imprints, &index.imprints));
+    dictionary.same(call, "dictionary", &with_front(&after.dictionary, &index.dictionary));
+    if answer.is_ok() {
+        index.imprints = imprints.words().to_vec();
+        index.imprints_told = after.imprints.len() as u64;
+        index.dictionary = dictionary.words().to_vec();
+        index.dictionary_told = after.dictionary.len() as u64;
+    }
     answer
 }
 

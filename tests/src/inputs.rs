@@ -1,5 +1,6 @@
 //! Seeded inputs: columns of every shape, ranges that touch their edges, and damage.
-use crate::plain::{Filter, Index, COUNT, REPEAT};
+use crate::held::{case, Word};
+use crate::plain::{self, Filter, Index, Told, COUNT, REPEAT};
 
 /// Marsaglia's xorshift.
 pub struct Dice(u64);
@@ -99,6 +100,20 @@ pub fn column(dice: &mut Dice, length: usize, shape: usize) -> Vec<i32> {
             // Long stretches of one imprint, then single odd lines.
             let odd: Vec<bool> = (0..length / 16 + 1).map(|_| dice.one_in(6)).collect();
             (0..length).map(|i| if odd[i / 16] { dice.below(90) as i32 } else { 100 }).collect()
+        }
+    }
+}
+
+/// Every length with every shape; `f` gets a column.
+pub fn every_column(salt: u64, mut f: impl FnMut(&mut Dice, Vec<i32>)) {
+    for round in 0..rounds(1) {
+        for length in LENGTHS {
+            for shape in 0..SHAPES {
+                let mut dice = Dice::new(salt + 1000 * round as u64 + (length * 100 + shape) as u64);
+                let column = column(&mut dice, length, shape);
+                case(format!("round {round}, length {length}, shape {shape}"));
+                f(&mut dice, column);
+            }
         }
     }
 }
@@ -228,10 +243,47 @@ fn split_entry(dice: &mut Dice, dictionary: &mut Vec<u32>, imprints: &mut Vec<u6
     }
 }
 
+/// An index that is not the column's own, or not an index at all.
+pub fn strange_index(dice: &mut Dice, column: &[i32]) -> Index {
+    let mut index = match dice.below(4) {
+        0 => {
+            let shape = dice.below(SHAPES);
+            plain::index(&self::column(dice, column.len(), shape))
+        }
+        1 => {
+            let length = dice.of(&[column.len() + 1, column.len() + 16, column.len() / 2]);
+            let shape = dice.below(SHAPES);
+            plain::index(&self::column(dice, length, shape))
+        }
+        _ => plain::index(column),
+    };
+    for _ in 0..dice.below(3) {
+        let kind = dice.below(INDEX_DAMAGES);
+        damage(dice, &mut index, kind);
+    }
+    index
+}
+
+/// The index in an imprint and a dictionary space of these lengths: stale words behind it, or what fits where the space is shorter.
+pub fn in_spaces(index: &Index, spaces: [usize; 2]) -> Told {
+    Told {
+        borders: index.borders.clone(),
+        imprints: in_space(&index.imprints, spaces[0]),
+        imprints_told: index.imprints.len() as u64,
+        dictionary: in_space(&index.dictionary, spaces[1]),
+        dictionary_told: index.dictionary.len() as u64,
+    }
+}
+
+fn in_space<T: Word>(words: &[T], space: usize) -> Vec<T> {
+    let behind = (words.len()..space).map(T::stale);
+    words.iter().copied().take(space).chain(behind).collect()
+}
+
 /// Words of a filter with free words behind the tree and `extra` ones behind the formula, never zero by chance alone.
 pub fn filter_words(dice: &mut Dice, filter: &Filter, extra: usize) -> Vec<u32> {
     let mut words = filter.layout();
-    let all = crate::plain::filter_words(filter.room) as usize + extra;
+    let all = plain::filter_words(filter.room) as usize + extra;
     while words.len() < all {
         words.push(dice.of(&[0, 1, 2, 3, 4, 7, u32::MAX, 1 << 20]));
     }

@@ -1,6 +1,6 @@
 //! Tests of the library from outside.
 //!
-//! - `plain`: document 01 once more, naive on purpose and written from the document alone; `examples` holds it to the document's own examples.
+//! - `plain`: documents 01 and 02 once more, naive on purpose and written from them alone; `examples` holds it to their own examples.
 //! - `face`: the library's calls, as a Rust program sees them through the C boundary.
 //! - `held`: each call made in both, and every number and every lent word compared.
 //! - `inputs`: seeded columns, ranges and damage.

@@ -1,4 +1,5 @@
-//! Document 01 said in plain Rust: slow, short, one function a sentence. Nothing here is taken from the proved code.
+//! Document 01, with what document 02 adds, said in plain Rust: slow, short, one function a sentence. Nothing here is taken from the proved
+//! code.
 
 pub const ROWS_AT_MOST: usize = 16_777_216;
 pub const LINES_AT_MOST: u64 = 1_048_576;
@@ -165,7 +166,7 @@ pub fn step(dictionary: &[u32], imprints: &[u64], at: Position) -> Result<(Optio
 
 // ---------------------------------------------------------------- build, pack, unpack, range search
 
-#[derive(Clone, Debug, PartialEq, Eq)]
+#[derive(Clone, Debug, Default, PartialEq, Eq)]
 pub struct Index {
     pub borders: Vec<i32>,
     pub imprints: Vec<u64>,
@@ -228,6 +229,58 @@ pub fn unpack(borders: &[i32], imprints: &[u64], dictionary: &[u32], lines: u64,
         return short(list.len());
     }
     Ok(list)
+}
+
+/// An index at the front of imprint and dictionary spaces that may be longer than it: the lengths of these two parts are told.
+#[derive(Clone, Debug, PartialEq, Eq)]
+pub struct Told {
+    pub borders: Vec<i32>,
+    pub imprints: Vec<u64>,
+    pub imprints_told: u64,
+    pub dictionary: Vec<u32>,
+    pub dictionary_told: u64,
+}
+
+/// The words told of a space; there are none where the length is beyond it.
+fn told<T>(space: &[T], length: u64) -> Option<&[T]> {
+    (length <= space.len() as u64).then(|| &space[..length as usize])
+}
+
+/// The imprints of lines that were full as they stood, those of every later line from the longer column.
+pub fn extended(column: &[i32], covered: usize, borders: &[i32], mut list: Vec<u64>) -> Vec<u64> {
+    let full = covered / ROWS_PER_LINE;
+    list.truncate(full);
+    list.extend(line_imprints(&column[full * ROWS_PER_LINE..], borders));
+    list
+}
+
+/// Document 02, request 101: the index that stands in the spaces afterwards. Their words past it stay.
+pub fn append(column: &[i32], covered: u64, index: &Told) -> Result<Index, No> {
+    if ROWS_AT_MOST < column.len() {
+        return no(2);
+    }
+    if (column.len() as u64) < covered {
+        return no(17);
+    }
+    if !borders_good(&index.borders) {
+        return no(5);
+    }
+    let covered = covered as usize;
+    let Some((imprints, dictionary)) = told(&index.imprints, index.imprints_told).zip(told(&index.dictionary, index.dictionary_told))
+    else {
+        return no(3);
+    };
+    let Some(list) = listed(&index.borders, imprints, dictionary, lines(covered) as u64) else {
+        return no(3);
+    };
+    let (imprints, dictionary) = packing(&extended(column, covered, &index.borders, list));
+    if index.imprints.len() < imprints.len() {
+        return short(imprints.len());
+    }
+    if index.dictionary.len() < dictionary.len() {
+        return short(dictionary.len());
+    }
+    Ok(Index { borders: index.borders.clone(), imprints, dictionary })
 }
 
 /// The smallest and the greatest value of a bin (the first above the second where the bin holds none).

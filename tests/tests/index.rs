@@ -1,37 +1,7 @@
 //! Build, pack, unpack, positions and range search, held against the plain implementation.
-use outside_tests::inputs::{self, Dice};
+use outside_tests::held::{self, Numbers};
+use outside_tests::inputs::{self, every_column, rounds, strange_index, Dice};
 use outside_tests::plain::{self, Index, Position, COUNT, REPEAT};
-use outside_tests::{held, inputs::rounds};
-
-/// How often each number came, so that no comparison is an empty one.
-#[derive(Default)]
-struct Numbers([usize; 13]);
-
-impl Numbers {
-    fn count<T>(&mut self, answer: &Result<T, plain::No>) {
-        self.0[answer.as_ref().err().map_or(0, |no| no.number) as usize] += 1;
-    }
-
-    fn seen(&self, numbers: &[usize]) {
-        for (number, &times) in self.0.iter().enumerate() {
-            assert_eq!(times != 0, numbers.contains(&number), "number {number} came {times} times");
-        }
-    }
-}
-
-/// Every length with every shape; `f` gets a column.
-fn every_column(salt: u64, mut f: impl FnMut(&mut Dice, Vec<i32>)) {
-    for round in 0..rounds(1) {
-        for length in inputs::LENGTHS {
-            for shape in 0..inputs::SHAPES {
-                let mut dice = Dice::new(salt + 1000 * round as u64 + (length * 100 + shape) as u64);
-                let column = inputs::column(&mut dice, length, shape);
-                held::case(format!("round {round}, length {length}, shape {shape}"));
-                f(&mut dice, column);
-            }
-        }
-    }
-}
 
 #[test]
 fn build() {
@@ -77,27 +47,6 @@ fn search_of_own_index() {
         }
     });
     numbers.seen(&[0, 1, 4]);
-}
-
-/// An index that is not the column's own, or not an index at all.
-fn strange_index(dice: &mut Dice, column: &[i32]) -> Index {
-    let mut index = match dice.below(4) {
-        0 => {
-            let shape = dice.below(inputs::SHAPES);
-            plain::index(&inputs::column(dice, column.len(), shape))
-        }
-        1 => {
-            let length = dice.of(&[column.len() + 1, column.len() + 16, column.len() / 2]);
-            let shape = dice.below(inputs::SHAPES);
-            plain::index(&inputs::column(dice, length, shape))
-        }
-        _ => plain::index(column),
-    };
-    for _ in 0..dice.below(3) {
-        let kind = dice.below(inputs::INDEX_DAMAGES);
-        inputs::damage(dice, &mut index, kind);
-    }
-    index
 }
 
 #[test]

@@ -7,7 +7,8 @@ pub enum Error {
     LowAboveHigh,
     /// 2: the column has more than [`ROWS_AT_MOST`](crate::ROWS_AT_MOST) rows, or the list more than [`LINES_AT_MOST`](crate::LINES_AT_MOST) lines.
     ColumnTooLong,
-    /// 3: the words are not a packed form for so many lines; of `pack`: a word that no line could have; of a step: a bad position.
+    /// 3: the words are not a packed form for so many lines; of `pack`: a word that no line could have; of a step: a bad position;
+    /// of `append`: also a told length beyond its space.
     NotAnIndex,
     /// 4: a lent space is shorter than the answer needs. The first short one in the order borders, imprints, dictionary counts.
     SpaceShort {
@@ -28,6 +29,8 @@ pub enum Error {
     NothingToForget,
     /// 11: room above [`ROOM_AT_MOST`](crate::ROOM_AT_MOST).
     RoomTooLarge,
+    /// 17: the index is said to cover more rows than the column has.
+    CoveredAboveRows,
 }
 
 impl Error {
@@ -49,6 +52,7 @@ impl Error {
             Error::NoRoom => 9,
             Error::NothingToForget => 10,
             Error::RoomTooLarge => 11,
+            Error::CoveredAboveRows => 17,
         }
     }
 
@@ -67,6 +71,7 @@ impl Error {
             9 => Error::NoRoom,
             10 => Error::NothingToForget,
             11 => Error::RoomTooLarge,
+            17 => Error::CoveredAboveRows,
             other => unreachable!("no call answers {other}"),
         })
     }
@@ -86,6 +91,7 @@ impl fmt::Display for Error {
             Error::NoRoom => write!(f, "learning needs more splits than the filter has room for"),
             Error::NothingToForget => write!(f, "there is nothing to forget"),
             Error::RoomTooLarge => write!(f, "the room is above 4,095"),
+            Error::CoveredAboveRows => write!(f, "the index covers more rows than the column has"),
         }
     }
 }

@@ -1,4 +1,4 @@
-use crate::face::{mgz_build, mgz_pack, mgz_search, mgz_step, mgz_unpack};
+use crate::face::{mgz_append, mgz_build, mgz_pack, mgz_search, mgz_step, mgz_unpack};
 use crate::{Error, BORDERS_AT_MOST, LINES_AT_MOST, ROWS_AT_MOST, ROWS_PER_LINE};
 use std::ops::RangeInclusive;
 
@@ -22,20 +22,26 @@ pub struct Index<'a> {
     pub dictionary: &'a [u32],
 }
 
-/// The words of an index, owned.
+/// The words of an index, owned; it grows as samples keep coming.
 ///
 /// ```
 /// use miguzoryane::IndexBuf;
 ///
-/// let column = [[5; 32].as_slice(), &[20; 8]].concat();
-/// let index = IndexBuf::build(&column)?;
-/// assert_eq!(index.as_index().borders, [5, 20]);
-/// assert_eq!(index.as_index().imprints, [2, 4]);
-/// assert_eq!(index.rows(&column, 20..=20)?, [32, 33, 34, 35, 36, 37, 38, 39]);
+/// // Three hours of a log, a row a minute.
+/// let mut minutes: Vec<i32> = (0..180).collect();
+/// let mut index = IndexBuf::build(&minutes)?;
+/// assert_eq!(index.rows(&minutes, 150..=150)?, [150]);
+///
+/// // At 03:00 the clock goes back to 02:00, and an hour later its sixty rows come in: there are two 02:30s now.
+/// minutes.extend(120..180);
+/// index.append(&minutes)?;
+/// assert_eq!(index.rows(&minutes, 150..=150)?, [150, 210]);
+/// assert_eq!(index.covered(), 240);
 /// # Ok::<(), miguzoryane::Error>(())
 /// ```
 #[derive(Clone, Debug, PartialEq, Eq)]
 pub struct IndexBuf {
+    covered: usize,
     borders: Vec<i32>,
     imprints: Vec<u64>,
     dictionary: Vec<u32>,
@@ -57,7 +63,46 @@ impl IndexBuf {
         dictionary.truncate(lengths.2);
         imprints.shrink_to_fit();
         dictionary.shrink_to_fit();
-        Ok(IndexBuf { borders, imprints, dictionary })
+        Ok(IndexBuf { covered: column.len(), borders, imprints, dictionary })
+    }
+
+    /// Extends the index to the longer column, whose first rows are those it [covers](IndexBuf::covered). The borders stay those of the
+    /// column it was built from. Refused, it stands as it was.
+    ///
+    /// ```
+    /// use miguzoryane::{Error, IndexBuf};
+    ///
+    /// let column: Vec<i32> = (0..1000).map(|row| 70 + row % 7).collect();
+    /// let mut index = IndexBuf::build(&column[..500])?;
+    /// let before = index.clone();
+    /// assert_eq!(index.append(&column[..499]), Err(Error::CoveredAboveRows));
+    /// assert_eq!(index, before);
+    /// index.append(&column)?;
+    /// assert_eq!(index.rows(&column, 75..=76)?.last(), Some(&999));
+    /// # Ok::<(), Error>(())
+    /// ```
+    pub fn append(&mut self, column: &[i32]) -> Result<(), Error> {
+        if ROWS_AT_MOST < column.len() {
+            return Err(Error::ColumnTooLong);
+        }
+        let told = (self.imprints.len(), self.dictionary.len());
+        // A word for each line to be imprinted: that is always enough, and spares the library measuring first.
+        let room = lines(column.len()).saturating_sub(self.covered / ROWS_PER_LINE);
+        self.imprints.resize(told.0 + room, 0);
+        self.dictionary.resize(told.1 + room, 0);
+        let appended = append(column, self.covered, &self.borders, &mut self.imprints, told.0, &mut self.dictionary, told.1);
+        let lengths = appended.map(|index| (index.imprints.len(), index.dictionary.len()));
+        let (imprints, dictionary) = lengths.unwrap_or(told);
+        keep(&mut self.imprints, imprints);
+        keep(&mut self.dictionary, dictionary);
+        lengths?;
+        self.covered = column.len();
+        Ok(())
+    }
+
+    /// How many rows it covers: as many as the column had that it was built from, or last extended to.
+    pub fn covered(&self) -> usize {
+        self.covered
     }
 
     /// The index, to hand to a search.
@@ -78,6 +123,14 @@ impl IndexBuf {
                 Err(error) => return Err(error),
             }
         }
+    }
+}
+
+/// Keeps so many words, and lets go of most of the room where a long piece needed far more.
+fn keep<T>(words: &mut Vec<T>, length: usize) {
+    words.truncate(length);
+    if 4 * length + 64 < words.capacity() {
+        words.shrink_to(2 * length);
     }
 }
 
@@ -114,6 +167,69 @@ pub fn build<'a>(column: &[i32], borders: &'a mut [i32], imprints: &'a mut [u64]
     };
     Error::check(number, out[0])?;
     Ok(Index { borders: &borders[..out[1] as usize], imprints: &imprints[..out[2] as usize], dictionary: &dictionary[..out[3] as usize] })
+}
+
+/// Samples keep coming: extends an index of a column's first rows to the whole of it, in the lent spaces where it stands, and hands back
+/// the parts that it fills now.
+///
+/// Lines that were full keep their imprints, and their rows are not read again; every later line is imprinted from the column, a last short
+/// one that was covered included. The borders stay. Rows may come in pieces cut anywhere: if none is refused, the index at the end is the
+/// same. The spaces may be longer than the index, so the lengths of its parts are told; words past the new lengths stay as they were.
+/// [`lines`] of the column's length is always enough for each space. [`IndexBuf::append`] sees to all of this.
+///
+/// Refused, in this order, with [`ColumnTooLong`](Error::ColumnTooLong), [`CoveredAboveRows`](Error::CoveredAboveRows),
+/// [`BadBorders`](Error::BadBorders), [`NotAnIndex`](Error::NotAnIndex), and [`SpaceShort`](Error::SpaceShort) with the whole new length of
+/// the first short space, imprints before dictionary.
+///
+/// ```
+/// use miguzoryane::{append, build, search, Error};
+///
+/// // Three hours of a log, a row a minute; then the clock goes back, and the hour from 02:00 comes in a second time.
+/// let minutes: Vec<i32> = (0..180).chain(120..180).collect();
+/// let (mut borders, mut imprints, mut dictionary) = ([0; 63], [0; 15], [0; 15]);
+/// let hours = build(&minutes[..180], &mut borders, &mut imprints, &mut dictionary)?;
+/// let told = (hours.borders.len(), hours.imprints.len(), hours.dictionary.len());
+/// let borders = &borders[..told.0];
+///
+/// let short = append(&minutes, 180, borders, &mut imprints[..14], told.1, &mut dictionary, told.2);
+/// assert_eq!(short, Err(Error::SpaceShort { needed: 15 }));
+///
+/// let index = append(&minutes, 180, borders, &mut imprints, told.1, &mut dictionary, told.2)?;
+/// assert_eq!(search(&minutes, index, 150..=150, &mut [0; 9])?.rows, [150, 210]);
+/// # Ok::<(), Error>(())
+/// ```
+pub fn append<'a>(
+    column: &[i32],
+    covered: usize,
+    borders: &'a [i32],
+    imprints: &'a mut [u64],
+    imprints_told: usize,
+    dictionary: &'a mut [u32],
+    dictionary_told: usize,
+) -> Result<Index<'a>, Error> {
+    if ROWS_AT_MOST < column.len() {
+        return Err(Error::ColumnTooLong);
+    }
+    let mut out = [0; 3];
+    // SAFETY: as in `build`.
+    let number = unsafe {
+        mgz_append(
+            column.as_ptr(),
+            column.len(),
+            covered as u64,
+            borders.as_ptr(),
+            borders.len(),
+            imprints.as_mut_ptr(),
+            imprints.len(),
+            imprints_told as u64,
+            dictionary.as_mut_ptr(),
+            dictionary.len(),
+            dictionary_told as u64,
+            &mut out,
+        )
+    };
+    Error::check(number, out[0])?;
+    Ok(Index { borders, imprints: &imprints[..out[1] as usize], dictionary: &dictionary[..out[2] as usize] })
 }
 
 /// Packs a list of imprints, one per line, in two lent spaces. The index handed back has the borders given.
@@ -201,8 +317,9 @@ pub struct Found<'a> {
     pub counts: Counts,
 }
 
-/// Lists the rows whose values lie in a range, both ends included, at the front of a lent space: so with the index built from the column.
-/// With any other index that is not refused, it lists the rows of the lines that it takes whole, and the matching rows of those compared.
+/// Lists the rows whose values lie in a range, both ends included, at the front of a lent space: so with an index built from the
+/// column, or built from its first rows and extended to it. With any other index that is not refused, it lists the rows of the lines that it
+/// takes whole, and the matching rows of those compared.
 ///
 /// ```
 /// use miguzoryane::{search, Error, IndexBuf};

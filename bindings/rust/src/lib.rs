@@ -1,8 +1,8 @@
 //! The rows of a column whose values lie in a range, from a proved library.
 //!
-//! Two parts and one above them: **column imprints** ([`build`], [`search`]: an index that says of every 16 rows which bins their
-//! values lie in), an **adaptive range filter** ([`Filter`]: a memory of ranges known to be empty), and the **search with both**
-//! ([`guarded_search`]).
+//! Two parts and one above them: **column imprints** ([`build`], [`append`], [`search`]: an index that says of every 16 rows which bins
+//! their values lie in, and grows as samples keep coming), an **adaptive range filter** ([`Filter`]: a memory of ranges known to be empty),
+//! and the **search with both** ([`guarded_search`]).
 //!
 //! The calls take slices and write into the caller's own spaces; [`IndexBuf`] and [`Filter::fresh`] allocate them where that is handier.
 //! Whatever is refused, with an [`Error`], has changed nothing. Damaged words are no danger: an index or a filter that isn't one is refused.
@@ -25,7 +25,7 @@ mod index;
 
 pub use error::Error;
 pub use filter::{filter_words, guarded_search, Filter, FilterState, Outcome};
-pub use index::{build, lines, pack, search, unpack, Counts, Found, Index, IndexBuf, Lines, Position};
+pub use index::{append, build, lines, pack, search, unpack, Counts, Found, Index, IndexBuf, Lines, Position};
 
 /// A line is this many rows; the last one of a column may be shorter.
 pub const ROWS_PER_LINE: usize = 16;

@@ -1,4 +1,4 @@
-//! Each number that a call can answer arrives as the error that names it, in the order of document 01's checks.
+//! Each number that a call can answer arrives as the error that names it, in the order of the documents' checks.
 #![allow(clippy::reversed_empty_ranges)]
 use miguzoryane::*;
 
@@ -28,6 +28,49 @@ fn of_the_index() {
     assert_eq!(unpack(A, 3, &mut [0; 2]), Err(Error::SpaceShort { needed: 3 }));
     assert_eq!(pack(&vec![1; LINES_AT_MOST + 1], &[], &mut [], &mut []), Err(Error::ColumnTooLong));
     assert_eq!(IndexBuf::build(&column).unwrap().as_index(), A);
+}
+
+#[test]
+fn of_an_append() {
+    let column = [column_a(), vec![5; 8]].concat();
+    let long = vec![0; ROWS_AT_MOST + 1];
+    let (mut imprints, mut dictionary) = ([2, 4, 77], [16777218, 1, 77]);
+    let mut refused = |column: &[i32], covered, borders: &[i32], told, spaces: usize| {
+        append(column, covered, borders, &mut imprints[..spaces], told, &mut dictionary[..spaces], told).unwrap_err()
+    };
+    assert_eq!(refused(&long, usize::MAX, &[5, 5], 9, 2), Error::ColumnTooLong);
+    assert_eq!(refused(&column, 49, &[5, 5], 9, 2), Error::CoveredAboveRows);
+    assert_eq!(refused(&column, 40, &[5, 5], 9, 2), Error::BadBorders);
+    assert_eq!(refused(&column, 40, &[5, 20], 3, 2), Error::NotAnIndex);
+    assert_eq!(refused(&column, 40, &[5, 20], usize::MAX, 2), Error::NotAnIndex);
+    assert_eq!(refused(&column, 32, &[5, 20], 2, 2), Error::NotAnIndex);
+    let more = [column_a(), vec![20; 8], vec![5; 1]].concat();
+    assert_eq!(refused(&more, 40, &[5, 20], 2, 2), Error::SpaceShort { needed: 3 });
+    assert_eq!((imprints, dictionary), ([2, 4, 77], [16777218, 1, 77]));
+    let index = append(&column, 40, &[5, 20], &mut imprints, 2, &mut dictionary, 2).unwrap();
+    assert_eq!(index, Index { borders: &[5, 20], imprints: &[2, 6], dictionary: &[16777218, 1] });
+    assert_eq!((imprints[2], dictionary[2]), (77, 77));
+}
+
+/// An index that grows by pieces of one row, then by a long one, ends as one that grew at once; refused, it stands as it was.
+#[test]
+fn of_an_index_that_grows() {
+    let column: Vec<i32> = (0..5000).map(|row| row / 40 % 9 + row % 2 * (row / 1000)).collect();
+    let mut index = IndexBuf::build(&column[..20]).unwrap();
+    let mut at_once = index.clone();
+    for rows in 20..=400 {
+        index.append(&column[..rows]).unwrap();
+    }
+    assert_eq!(index.covered(), 400);
+    let before = index.clone();
+    assert_eq!(index.append(&column[..399]), Err(Error::CoveredAboveRows));
+    assert_eq!(index.append(&vec![0; ROWS_AT_MOST + 1]), Err(Error::ColumnTooLong));
+    assert_eq!(index, before);
+    index.append(&column).unwrap();
+    at_once.append(&column).unwrap();
+    assert_eq!(index, at_once);
+    let scanned: Vec<u32> = (0..5000).filter(|&row| (3..=4).contains(&column[row as usize])).collect();
+    assert_eq!(index.rows(&column, 3..=4).unwrap(), scanned);
 }
 
 #[test]
@@ -90,7 +133,7 @@ fn numbers() {
         Error::NothingToForget,
         Error::RoomTooLarge,
     ];
-    for (error, number) in all.into_iter().zip(1..) {
+    for (error, number) in all.into_iter().zip(1..).chain([(Error::CoveredAboveRows, 17)]) {
         assert_eq!(error.number(), number);
         assert!(!error.to_string().is_empty());
     }

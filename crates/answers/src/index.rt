@@ -1,4 +1,5 @@
 // The index part: an answer's number, and the words beside it.
+use column_index::AppendAnswer;
 use column_index::BuildAnswer;
 use column_index::PackAnswer;
 use column_index::UnpackAnswer;
@@ -6,7 +7,7 @@ use dictionary::Step;
 ghost use mathlib.Core.Path.{_≡_};
 ghost use lib.ListN.{length};
 ghost use Rattle.words.specs.Numbers.{numbered};
-ghost use Rattle.column_index.specs.Promise.{build-number, build-beside, pack-number, pack-beside, unpack-number};
+ghost use Rattle.column_index.specs.Promise.{build-number, build-beside, append-number, append-beside, pack-number, pack-beside, unpack-number};
 ghost use Rattle.answers.specs.Beside.{unpack-needed, step-number, step-beside};
 
 // ---- build
@@ -41,6 +42,43 @@ pub fn build_words(answer: BuildAnswer, out: &mut [u64])
         BuildAnswer::BordersShort(n) => crate::beside::put4(out, n as u64, 0, 0, 0),
         BuildAnswer::ImprintsShort(n) => crate::beside::put4(out, n as u64, 0, 0, 0),
         BuildAnswer::DictionaryShort(n) => crate::beside::put4(out, n as u64, 0, 0, 0),
+    }
+}
+
+// ---- append
+
+pub fn append_number(answer: AppendAnswer) -> u32
+    ensures { λ r. ⌜ r ≡ numbered (append-number answer) ⌝ }
+{
+    match answer {
+        AppendAnswer::Done {
+            imprints: _,
+            dictionary: _,
+        } => 0,
+        AppendAnswer::TooLong => 2,
+        AppendAnswer::CoveredAbove => 17,
+        AppendAnswer::BadBorders => 5,
+        AppendAnswer::NoIndex => 3,
+        AppendAnswer::ImprintsShort(_) => 4,
+        AppendAnswer::DictionaryShort(_) => 4,
+    }
+}
+
+pub fn append_words(answer: AppendAnswer, out: &mut [u64])
+    requires { ⌜ length (now out) ≡ 3 ⌝ }
+    ensures { λ _. ⌜ now (out .exit) ≡ append-beside answer ⌝ }
+{
+    match answer {
+        AppendAnswer::Done {
+            imprints,
+            dictionary,
+        } => crate::beside::put3(out, 0, imprints as u64, dictionary as u64),
+        AppendAnswer::TooLong => crate::beside::put3(out, 0, 0, 0),
+        AppendAnswer::CoveredAbove => crate::beside::put3(out, 0, 0, 0),
+        AppendAnswer::BadBorders => crate::beside::put3(out, 0, 0, 0),
+        AppendAnswer::NoIndex => crate::beside::put3(out, 0, 0, 0),
+        AppendAnswer::ImprintsShort(n) => crate::beside::put3(out, n as u64, 0, 0),
+        AppendAnswer::DictionaryShort(n) => crate::beside::put3(out, n as u64, 0, 0),
     }
 }
 

@@ -10,9 +10,11 @@ use Rattle.words.specs.Numbers.{numbered}
 use Rattle.dictionary.specs.Position.{position, step}
 use Rattle.dictionary.specs.declared.Step.{Step}
 use Rattle.dictionary.specs.declared.Step.the-variants.{Line, Ended, Wrong}
-use Rattle.column_index.specs.Promise.{build-number, build-beside, pack-number, pack-beside, unpack-number, search-number, search-beside}
+use Rattle.column_index.specs.Promise.{build-number, build-beside, append-number, append-beside, pack-number, pack-beside, unpack-number, search-number, search-beside}
 use Rattle.column_index.specs.declared.BuildAnswer.{BuildAnswer}
 use Rattle.column_index.specs.declared.BuildAnswer.the-variants as build
+use Rattle.column_index.specs.declared.AppendAnswer.{AppendAnswer}
+use Rattle.column_index.specs.declared.AppendAnswer.the-variants as appending
 use Rattle.column_index.specs.declared.PackAnswer.{PackAnswer}
 use Rattle.column_index.specs.declared.PackAnswer.the-variants as packing
 use Rattle.column_index.specs.declared.UnpackAnswer.{UnpackAnswer}
@@ -35,7 +37,7 @@ use Rattle.guarded_search.specs.declared.Outcome.the-variants.{Denied, Found, L
 use Rattle.guarded_search.specs.Searching.{says-learnt}
 use Rattle.guarded_search.proofs.TurnLaws.{Turned, same, more, waste, turned}
 use Rattle.answers.specs.Beside.{unpack-needed, step-number, step-beside}
-use Rattle.c_api.specs.Promise.{BuildFace, PackFace, UnpackFace, StepFace, SearchFace, FreshFace, AskFace, ReadFace, GuardFace}
+use Rattle.c_api.specs.Promise.{BuildFace, AppendFace, PackFace, UnpackFace, StepFace, SearchFace, FreshFace, AskFace, ReadFace, GuardFace}
 
 -- ---- build
 
@@ -59,6 +61,33 @@ module _ {col bs b₁ : List ℤ} {is ds i₁ d₁ o : List ℕ} {n : ℕ} (p : 
 
   pub build-needs-4 : (n ≡ 4 → ⊥) → getD o 0 0 ≡ 0
   build-needs-4 ne = ap (λ (l : List ℕ). getD l 0 0) (p .words) ∙ build-need (p .answer) (λ z. ne (p .number ∙ z))
+
+-- ---- append
+
+append-rest : (a : AppendAnswer) → (numbered (append-number a) ≡ 0 → ⊥) → drop 1 (append-beside a) ≡ 0 ∷ 0 ∷ []
+append-rest (appending.Done i d) ne = absurd (ne refl)
+append-rest appending.TooLong ne = refl
+append-rest appending.CoveredAbove ne = refl
+append-rest appending.BadBorders ne = refl
+append-rest appending.NoIndex ne = refl
+append-rest (appending.ImprintsShort n) ne = refl
+append-rest (appending.DictionaryShort n) ne = refl
+
+append-need : (a : AppendAnswer) → (numbered (append-number a) ≡ 4 → ⊥) → getD (append-beside a) 0 0 ≡ 0
+append-need (appending.Done i d) ne = refl
+append-need appending.TooLong ne = refl
+append-need appending.CoveredAbove ne = refl
+append-need appending.BadBorders ne = refl
+append-need appending.NoIndex ne = refl
+append-need (appending.ImprintsShort n) ne = absurd (ne refl)
+append-need (appending.DictionaryShort n) ne = absurd (ne refl)
+
+module _ {col bs : List ℤ} {is ds i₁ d₁ o : List ℕ} {covered ti td n : ℕ} (p : AppendFace col covered bs is ti ds td n i₁ d₁ o) where
+  pub append-zeros : (n ≡ 0 → ⊥) → drop 1 o ≡ 0 ∷ 0 ∷ []
+  append-zeros ne = ap (drop 1) (p .words) ∙ append-rest (p .answer) (λ z. ne (p .number ∙ z))
+
+  pub append-needs-4 : (n ≡ 4 → ⊥) → getD o 0 0 ≡ 0
+  append-needs-4 ne = ap (λ (l : List ℕ). getD l 0 0) (p .words) ∙ append-need (p .answer) (λ z. ne (p .number ∙ z))
 
 -- ---- pack
 

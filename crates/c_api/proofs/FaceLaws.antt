@@ -4,18 +4,19 @@ use mathlib.Core.List.{List}
 use Prim.Native.Nat.{ℕ}
 use lib.IntN.{ℤ}
 use Rattle.words.specs.Numbers.{numbered}
-use Rattle.column_index.specs.Promise.{build-number, build-beside, pack-number, pack-beside, unpack-number, search-number, search-beside}
+use Rattle.column_index.specs.Promise.{build-number, build-beside, append-number, append-beside, pack-number, pack-beside, unpack-number, search-number, search-beside}
 use Rattle.column_index.specs.declared.BuildAnswer.{BuildAnswer}
+use Rattle.column_index.specs.declared.AppendAnswer.{AppendAnswer}
 use Rattle.column_index.specs.declared.PackAnswer.{PackAnswer}
 use Rattle.column_index.specs.declared.UnpackAnswer.{UnpackAnswer}
 use Rattle.column_index.specs.declared.SearchAnswer.{SearchAnswer}
-use Rattle.column_index.proofs.PromiseLaws.{builds-only, builds-keeps, packs-only, packs-keeps, unpacks-only, unpacks-keeps, searches-only, searches-keeps}
+use Rattle.column_index.proofs.PromiseLaws.{builds-only, builds-keeps, appends-only, appends-keeps, packs-only, packs-keeps, unpacks-only, unpacks-keeps, searches-only, searches-keeps}
 use Rattle.range_filter.specs.Promise.{madeNumber, madeBeside, askedNumber, askedBeside, learntNumber, arrivedNumber, departedNumber, forgotNumber, readingNumber, readingBeside}
 use Rattle.range_filter.proofs.Only.{fresh-only, fresh-refused, ask-only, learn-only, learn-refused, arrive-only, arrive-refused, depart-only, forget-only, forget-refused, read-only}
 use Rattle.guarded_search.specs.Promise.{guard-number, guard-beside}
 use Rattle.guarded_search.proofs.Only.{guards-only, guards-refused}
 use Rattle.answers.specs.Beside.{unpack-needed}
-use Rattle.c_api.specs.Promise.{BuildFace, PackFace, UnpackFace, StepFace, SearchFace, FreshFace, AskFace, LearnFace, ArriveFace, DepartFace, ForgetFace, ReadFace, GuardFace}
+use Rattle.c_api.specs.Promise.{BuildFace, AppendFace, PackFace, UnpackFace, StepFace, SearchFace, FreshFace, AskFace, LearnFace, ArriveFace, DepartFace, ForgetFace, ReadFace, GuardFace}
 
 -- what is said of one answer by one function is one thing
 one : {A B : Type 0} (f : A → B) {r s : A} {m n : B} → r ≡ s → m ≡ f r → n ≡ f s → m ≡ n
@@ -31,6 +32,15 @@ module _ {col bs : List ℤ} {is ds : List ℕ} where
 
   pub build-keeps : {n : ℕ} {b₁ : List ℤ} {i₁ d₁ o₁ : List ℕ} → BuildFace col bs is ds n b₁ i₁ d₁ o₁ → (n ≡ 0 → ⊥) → (b₁ ≡ bs) × (i₁ ≡ is) × (d₁ ≡ ds)
   build-keeps p ne = builds-keeps (p .builds) (λ z. ne (p .number ∙ z))
+
+module _ {col : List ℤ} {covered : ℕ} {bs : List ℤ} {is : List ℕ} {ti : ℕ} {ds : List ℕ} {td : ℕ} where
+  pub append-only : {m n : ℕ} {i₁ i₂ d₁ d₂ o₁ o₂ : List ℕ} → AppendFace col covered bs is ti ds td m i₁ d₁ o₁ → AppendFace col covered bs is ti ds td n i₂ d₂ o₂ → (m ≡ n) × (i₁ ≡ i₂) × (d₁ ≡ d₂) × (o₁ ≡ o₂)
+  append-only p q =
+      let e = appends-only (p .appends) (q .appends) in
+      (one (λ (a : AppendAnswer). numbered (append-number a)) (e .0) (p .number) (q .number), e .1, e .2, one append-beside (e .0) (p .words) (q .words))
+
+  pub append-keeps : {n : ℕ} {i₁ d₁ o₁ : List ℕ} → AppendFace col covered bs is ti ds td n i₁ d₁ o₁ → (n ≡ 0 → ⊥) → (i₁ ≡ is) × (d₁ ≡ ds)
+  append-keeps p ne = appends-keeps (p .appends) (λ z. ne (p .number ∙ z))
 
 module _ {ws : List ℕ} {bs : List ℤ} {is ds : List ℕ} where
   pub pack-only : {m n : ℕ} {i₁ i₂ d₁ d₂ o₁ o₂ : List ℕ} → PackFace ws bs is ds m i₁ d₁ o₁ → PackFace ws bs is ds n i₂ d₂ o₂ → (m ≡ n) × (i₁ ≡ i₂) × (d₁ ≡ d₂) × (o₁ ≡ o₂)

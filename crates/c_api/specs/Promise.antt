@@ -6,8 +6,9 @@ use lib.IntN.{ℤ}
 use Rattle.words.specs.Numbers.{numbered}
 use Rattle.dictionary.specs.Position.{position, step}
 use Rattle.bins.specs.Bins.{readings}
-use Rattle.column_index.specs.Promise.{Builds, build-number, build-beside, Packs, pack-number, pack-beside, Unpacks, unpack-number, Searches, search-number, search-beside}
+use Rattle.column_index.specs.Promise.{Builds, build-number, build-beside, Appends, append-number, append-beside, Packs, pack-number, pack-beside, Unpacks, unpack-number, Searches, search-number, search-beside}
 use Rattle.column_index.specs.declared.BuildAnswer.{BuildAnswer}
+use Rattle.column_index.specs.declared.AppendAnswer.{AppendAnswer}
 use Rattle.column_index.specs.declared.PackAnswer.{PackAnswer}
 use Rattle.column_index.specs.declared.UnpackAnswer.{UnpackAnswer}
 use Rattle.column_index.specs.declared.SearchAnswer.{SearchAnswer}
@@ -31,6 +32,13 @@ pub record BuildFace (col bs : List ℤ) (is ds : List ℕ) (n : ℕ) (bs′ : L
   pub builds : Builds readings col bs is ds answer bs′ is′ ds′
   pub number : n ≡ numbered (build-number answer)
   pub words : out′ ≡ build-beside answer
+
+-- append; ti and td are the told lengths; beside the number: needed, imprints, dictionary
+pub record AppendFace (col : List ℤ) (covered : ℕ) (bs : List ℤ) (is : List ℕ) (ti : ℕ) (ds : List ℕ) (td : ℕ) (n : ℕ) (is′ ds′ out′ : List ℕ) : Type 0 where
+  pub answer : AppendAnswer
+  pub appends : Appends readings col covered bs is ti ds td answer is′ ds′
+  pub number : n ≡ numbered (append-number answer)
+  pub words : out′ ≡ append-beside answer
 
 -- pack; beside the number: needed, imprints, dictionary
 pub record PackFace (ws : List ℕ) (bs : List ℤ) (is ds : List ℕ) (n : ℕ) (is′ ds′ out′ : List ℕ) : Type 0 where

@@ -1,6 +1,6 @@
-// The index part: build, pack, unpack, one step of a line reader, and range search.
+// The index part: build, append, pack, unpack, one step of a line reader, and range search.
 use dictionary::Position;
-ghost use Rattle.c_api.specs.Promise.{BuildFace, PackFace, UnpackFace, StepFace, SearchFace};
+ghost use Rattle.c_api.specs.Promise.{BuildFace, AppendFace, PackFace, UnpackFace, StepFace, SearchFace};
 
 // ---- build
 
@@ -18,6 +18,35 @@ pub extern "C" fn mgz_build(
     let answer = reading_index::made::build(column, borders, imprints, dictionary);
     answers::index::build_words(answer, out);
     answers::index::build_number(answer)
+}
+
+// ---- append
+
+// The index of the first `covered` rows, which is the words told of both spaces, becomes one of the whole column, with the same borders. Beside the number: needed (the whole length), imprints, dictionary.
+#[no_mangle]
+pub extern "C" fn mgz_append(
+    column: &[i32],
+    covered: u64,
+    borders: &[i32],
+    imprints: &mut [u64],
+    imprints_told: u64,
+    dictionary: &mut [u32],
+    dictionary_told: u64,
+    out: &mut [u64; 3],
+) -> u32
+    ensures { λ r. ⌜ AppendFace (now (column .entry)) covered (now (borders .entry)) (now (imprints .entry)) «imprints_told» (now (dictionary .entry)) «dictionary_told» r (now (imprints .exit)) (now (dictionary .exit)) (now (out .exit)) ⌝ }
+{
+    let answer = reading_append::append(
+        column,
+        covered as usize,
+        borders,
+        imprints,
+        imprints_told as usize,
+        dictionary,
+        dictionary_told as usize,
+    );
+    answers::index::append_words(answer, out);
+    answers::index::append_number(answer)
 }
 
 // ---- pack

@@ -2,4 +2,4 @@
 
 pub mod both; // both.rt: the search with both
 pub mod filter; // filter.rt: the filter's calls
-pub mod index; // index.rt: build, pack, unpack, step and range search
+pub mod index; // index.rt: build, append, pack, unpack, step and range search

@@ -4,7 +4,7 @@
 #[allow(dead_code)]
 #[path = "../../src/plain.rs"]
 mod plain;
-use plain::{Filter, Found, Index, No, Outcome, Position};
+use plain::{Filter, Found, Index, No, Outcome, Position, Told};
 use std::slice::{from_raw_parts, from_raw_parts_mut};
 use std::sync::OnceLock;
 
@@ -75,6 +75,58 @@ pub unsafe extern "C" fn mgz_build(
         borders[index.borders.len()] = i32::MAX;
     }
     0
+}
+
+fn appended(column: &[i32], covered: u64, index: &Told) -> Result<Index, No> {
+    let beyond = (index.imprints.len() as u64) < index.imprints_told || (index.dictionary.len() as u64) < index.dictionary_told;
+    if fault("told-before-borders") && beyond && column.len() <= plain::ROWS_AT_MOST && covered <= column.len() as u64 {
+        return Err(No { number: 3, needed: 0 });
+    }
+    let filled = covered.checked_next_multiple_of(16).filter(|&rows| rows <= column.len() as u64);
+    let covered = if fault("short-line-trusted") { filled.unwrap_or(covered) } else { covered };
+    let mut answer = plain::append(column, covered, index);
+    if let (true, Ok(after)) = (fault("full-lines-reread"), &mut answer) {
+        (after.imprints, after.dictionary) = plain::packing(&plain::line_imprints(column, &after.borders));
+        after.imprints.truncate(index.imprints.len());
+        after.dictionary.truncate(index.dictionary.len());
+    }
+    if let (true, Err(No { number: 4, needed })) = (fault("append-needs-the-additional"), &mut answer) {
+        let imprints_short = (index.imprints.len() as u64) < *needed;
+        *needed -= (if imprints_short { index.imprints_told } else { index.dictionary_told }).min(*needed);
+    }
+    answer
+}
+
+#[no_mangle]
+pub unsafe extern "C" fn mgz_append(
+    column: *const i32,
+    n: usize,
+    covered: u64,
+    borders: *const i32,
+    b: usize,
+    imprints: *mut u64,
+    i: usize,
+    imprints_told: u64,
+    dictionary: *mut u32,
+    d: usize,
+    dictionary_told: u64,
+    out: *mut u64,
+) -> u32 {
+    let (column, borders, out) = unsafe { (read(column, n), read(borders, b).to_vec(), lent(out, 3)) };
+    let (imprints, dictionary) = unsafe { (lent(imprints, i), lent(dictionary, d)) };
+    let index = Told { borders, imprints: imprints.to_vec(), imprints_told, dictionary: dictionary.to_vec(), dictionary_told };
+    let answer = appended(column, covered, &index);
+    if fault("append-writes-before-4") && number(&answer) == 4 && 0 < imprints_told {
+        imprints[imprints_told as usize - 1] ^= 1;
+    }
+    let after = answer.clone().unwrap_or_default();
+    out.copy_from_slice(&[needed(&answer), after.imprints.len() as u64, after.dictionary.len() as u64]);
+    if fault("append-clears-behind") && answer.is_ok() && (after.imprints.len() as u64) < imprints_told {
+        imprints[after.imprints.len()..imprints_told as usize].fill(0);
+    }
+    put(imprints, &after.imprints);
+    put(dictionary, &after.dictionary);
+    number(&answer)
 }
 
 #[no_mangle]
