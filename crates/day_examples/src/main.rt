@@ -2,35 +2,14 @@
 use column_index::BuildAnswer;
 use guarded_search::GuardAnswer;
 use guarded_search::Outcome;
-use libc::STDOUT_FILENO;
 use range_filter::Key;
 use range_filter::Made;
-
-fn text(t: &[u8]) {
-    io::write_all(STDOUT_FILENO, t);
-}
-
-fn number(n: usize) {
-    text(b" ");
-    io::print_decimal(STDOUT_FILENO, n as u64);
-}
-
-fn wide(x: u32) -> usize {
-    x as usize
-}
-
-// The first n words of what is lent, or all of it.
-fn front_i32(s: &[i32], n: usize) -> &[i32] {
-    if n <= s.len() { &s[..n] } else { s }
-}
-
-fn front_u64(s: &[u64], n: usize) -> &[u64] {
-    if n <= s.len() { &s[..n] } else { s }
-}
-
-fn front_u32(s: &[u32], n: usize) -> &[u32] {
-    if n <= s.len() { &s[..n] } else { s }
-}
+use shown::front_i32;
+use shown::front_u32;
+use shown::front_u64;
+use shown::number;
+use shown::text;
+use shown::wide;
 
 fn became(outcome: Outcome) {
     match outcome {

@@ -14,7 +14,7 @@ use Rattle.range_filter.specs.Layout.{Memory, treeIn}
 use Rattle.range_filter.specs.Calls.{freshMemory, run, allIn, learnt, tooMany, arrived, single, forgotten}
 
 -- 32 rows of 5, then 8 rows of 20
-abbrev column-A : List ℤ
+abbrev pub column-A : List ℤ
 column-A = replicate 32 (pos 5) ++ replicate 8 (pos 20)
 
 -- 0, 1 .. 99

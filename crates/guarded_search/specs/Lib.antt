@@ -4,4 +4,5 @@ pub mod Gaps
 pub mod Searching
 pub mod History
 pub mod Examples
+pub mod AppendExamples
 pub mod loops

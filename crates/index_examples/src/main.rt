@@ -5,30 +5,14 @@ use column_index::SearchAnswer;
 use column_index::UnpackAnswer;
 use dictionary::Position;
 use dictionary::Step;
-use libc::STDOUT_FILENO;
+use shown::front_i32;
+use shown::front_u32;
+use shown::front_u64;
+use shown::number;
+use shown::text;
+use shown::wide;
 
-fn text(t: &[u8]) {
-    io::write_all(STDOUT_FILENO, t);
-}
-
-fn number(n: usize) {
-    text(b" ");
-    io::print_decimal(STDOUT_FILENO, n as u64);
-}
-
-// The first n words of what is lent, or all of it.
-fn front_i32(s: &[i32], n: usize) -> &[i32] {
-    if n <= s.len() { &s[..n] } else { s }
-}
-
-fn front_u64(s: &[u64], n: usize) -> &[u64] {
-    if n <= s.len() { &s[..n] } else { s }
-}
-
-fn front_u32(s: &[u32], n: usize) -> &[u32] {
-    if n <= s.len() { &s[..n] } else { s }
-}
-
+// The first n words of a lent space, or all of it.
 fn space_i32(s: &mut [i32], n: usize) -> &mut [i32] {
     if n <= s.len() { &mut s[..n] } else { s }
 }
@@ -54,10 +38,6 @@ fn ramp(column: &mut [i32], different: usize) {
         column[i] = (i % different) as i32;
         i += 1;
     }
-}
-
-fn wide(x: u32) -> usize {
-    x as usize
 }
 
 fn refused(n: usize, needed: usize) {

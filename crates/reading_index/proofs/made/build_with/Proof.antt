@@ -4,7 +4,7 @@ use borrow.Author.Needs.{needs}
 use Rattle.bins.specs.Bins.{readings}
 use Rattle.column_index.proofs.AnswerLaws.{found-few}
 use Rattle.column_index.proofs.ColumnLaws.{lines-from, steady-from-nothing, kept-from-nothing, words-from-nothing, column-imps-short, column-dict-short}
-use Rattle.column_index.proofs.GoneLaws.{built-filled, built-imprints-short, built-dictionary-short}
+use Rattle.column_index.proofs.BuildCases.{built-filled, built-imprints-short, built-dictionary-short}
 use Rattle.reading_index.proofs.made.build_with.Statement.{statement}
 use Rattle.reading_index.proofs.made.build_with.Tie as tie
 

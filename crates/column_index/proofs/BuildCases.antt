@@ -1,4 +1,4 @@
--- What a packing that went on makes of build's promise. Assumes nothing.
+-- The cases of build's promise, by what a packing that went on from nothing answered. Assumes nothing.
 use Prim.Native.Nat.{ℕ, _≤_}
 use mathlib.Core.Path.{_≡_, sym, _∙_, ap}
 use mathlib.Core.List.{List}

@@ -1,9 +1,9 @@
--- `day_examples::front_u64` is safe. Assumes nothing.
+-- `shown::front_u32` is safe. Assumes nothing.
 use mathlib.Core.Path.{sym}
 use lib.Seq.{length-take-le}
 use borrow.Author.Needs.{needs}
-use Rattle.day_examples.proofs.front_u64.Statement.{statement}
-use Rattle.day_examples.proofs.front_u64.Tie as tie
+use Rattle.shown.proofs.front_u32.Statement.{statement}
+use Rattle.shown.proofs.front_u32.Tie as tie
 
 slice-aggregate-result : tie.Need-slice-aggregate-result
 slice-aggregate-result c = sym (length-take-le _ _ (c .before .if1 .taken))
@@ -14,5 +14,5 @@ returns c = search needs
 returns-2 : tie.Need-returns-2
 returns-2 c = search needs
 
-pub front-u64-spec : {M : Type 1} → statement M
-front-u64-spec = tie.close (tie.spec slice-aggregate-result returns returns-2)
+pub front-u32-spec : {M : Type 1} → statement M
+front-u32-spec = tie.close (tie.spec slice-aggregate-result returns returns-2)

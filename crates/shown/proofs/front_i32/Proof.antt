@@ -1,9 +1,9 @@
--- `day_examples::front_i32` is safe. Assumes nothing.
+-- `shown::front_i32` is safe. Assumes nothing.
 use mathlib.Core.Path.{sym}
 use lib.Seq.{length-take-le}
 use borrow.Author.Needs.{needs}
-use Rattle.day_examples.proofs.front_i32.Statement.{statement}
-use Rattle.day_examples.proofs.front_i32.Tie as tie
+use Rattle.shown.proofs.front_i32.Statement.{statement}
+use Rattle.shown.proofs.front_i32.Tie as tie
 
 slice-aggregate-result : tie.Need-slice-aggregate-result
 slice-aggregate-result c = sym (length-take-le _ _ (c .before .if1 .taken))
