@@ -1,5 +1,7 @@
 // What the example programs share: text and numbers for people, and the fronts of lent spaces.
 use libc::STDOUT_FILENO;
+ghost use mathlib.Core.Path.{_≡_};
+ghost use lib.ListN.{take};
 
 pub fn text(t: &[u8]) {
     io::write_all(STDOUT_FILENO, t);
@@ -19,7 +21,9 @@ pub fn words_u64(s: &[u64]) {
     }
 }
 
-pub fn wide(x: u32) -> usize {
+pub fn wide(x: u32) -> usize
+    ensures { λ r. ⌜ r ≡ x ⌝ }
+{
     x as usize
 }
 
@@ -32,14 +36,20 @@ pub fn words_u32(s: &[u32]) {
 }
 
 // The first n words of what is lent, or all of it.
-pub fn front_i32(s: &[i32], n: usize) -> &[i32] {
+pub fn front_i32(s: &[i32], n: usize) -> &[i32]
+    ensures { λ r. ⌜ now r ≡ take n (now (s .entry)) ⌝ }
+{
     if n <= s.len() { &s[..n] } else { s }
 }
 
-pub fn front_u64(s: &[u64], n: usize) -> &[u64] {
+pub fn front_u64(s: &[u64], n: usize) -> &[u64]
+    ensures { λ r. ⌜ now r ≡ take n (now (s .entry)) ⌝ }
+{
     if n <= s.len() { &s[..n] } else { s }
 }
 
-pub fn front_u32(s: &[u32], n: usize) -> &[u32] {
+pub fn front_u32(s: &[u32], n: usize) -> &[u32]
+    ensures { λ r. ⌜ now r ≡ take n (now (s .entry)) ⌝ }
+{
     if n <= s.len() { &s[..n] } else { s }
 }

@@ -1,14 +1,13 @@
 -- Packing line by line, the lines with the last one first: the packer, the dictionary words settled and the imprints kept so far are then plain recursions. Assumes nothing.
 use Prim.Native.Nat.{ℕ, _+_}
-use mathlib.Core.Path.{_≡_, refl, sym, _∙_, ap, ap₂}
+use mathlib.Core.Path.{_≡_, refl, sym, _∙_, ap₂}
 use mathlib.Core.List.{List, [], _∷_, _++_, append-nil, append-assoc, reverseAux}
-use mathlib.Core.Bool.{Bool, true, false, cond}
 use native.Mathlib.Omega.{arith}
 use lib.ListN.{length, length-append}
 use Rattle.dictionary.specs.Dictionary.{largest, pack}
 use Rattle.dictionary.specs.declared.packing.Packer.{Packer}
 use Rattle.dictionary.specs.loops.Packer.{move-on, last-word, settled, added, dict-from, imps-from, after, gone-on, starting}
-use Rattle.dictionary.proofs.PackLoops.{dict-packs, imps-packs}
+use Rattle.dictionary.proofs.PackLoops.{dict-packs, imps-packs, length-added}
 
 -- the packer after these lines
 abbrev pub stood : List ℕ → Packer
@@ -33,32 +32,25 @@ pub gone-stood : (ws r : List ℕ) → gone-on largest (stood r) ws ≡ stood (r
 gone-stood [] r = refl
 gone-stood (y ∷ ws) r = gone-stood ws (y ∷ r)
 
--- the words in the end, where the lines b come after the lines r and a
-dict-parts : (a r b : List ℕ) → settled-by r ++ dict-from largest (stood r .state) (a ++ b) ≡ settled-by (reverseAux a r) ++ dict-from largest (stood (reverseAux a r) .state) b
-dict-parts [] r b = refl
-dict-parts (y ∷ a) r b =
+-- the words in the end, where the lines ws come after the lines r
+dict-comes : (ws r : List ℕ) → settled-by r ++ dict-from largest (stood r .state) ws ≡ dict-by (reverseAux ws r)
+dict-comes [] r = refl
+dict-comes (y ∷ ws) r =
     let t = move-on largest (stood r .state) y in
-    sym (append-assoc (settled-by r) (settled (t .word)) (dict-from largest (t .next) (a ++ b))) ∙ dict-parts a (y ∷ r) b
+    sym (append-assoc (settled-by r) (settled (t .word)) (dict-from largest (t .next) ws)) ∙ dict-comes ws (y ∷ r)
 
-imps-parts : (a r b : List ℕ) → kept-by r ++ imps-from largest (stood r .state) (a ++ b) ≡ kept-by (reverseAux a r) ++ imps-from largest (stood (reverseAux a r) .state) b
-imps-parts [] r b = refl
-imps-parts (y ∷ a) r b =
+imps-comes : (ws r : List ℕ) → kept-by r ++ imps-from largest (stood r .state) ws ≡ kept-by (reverseAux ws r)
+imps-comes [] r = append-nil (kept-by r)
+imps-comes (y ∷ ws) r =
     let t = move-on largest (stood r .state) y in
-    sym (append-assoc (kept-by r) (added (t .keeps) y) (imps-from largest (t .next) (a ++ b))) ∙ imps-parts a (y ∷ r) b
+    sym (append-assoc (kept-by r) (added (t .keeps) y) (imps-from largest (t .next) ws)) ∙ imps-comes ws (y ∷ r)
 
--- THE WORDS OF A PACKING, BEHIND ANY OF ITS LINES
-pub pack-dict-on : (a b : List ℕ) → pack largest (a ++ b) .dict ≡ settled-by (reverseAux a []) ++ dict-from largest (stood (reverseAux a []) .state) b
-pack-dict-on a b = sym (dict-packs (a ++ b)) ∙ dict-parts a [] b
-
-pub pack-imps-on : (a b : List ℕ) → pack largest (a ++ b) .imps ≡ kept-by (reverseAux a []) ++ imps-from largest (stood (reverseAux a []) .state) b
-pack-imps-on a b = sym (imps-packs (a ++ b)) ∙ imps-parts a [] b
-
--- and behind all of them
+-- THE WORDS OF A PACKING
 pub pack-dict : (ws : List ℕ) → pack largest ws .dict ≡ dict-by (reverseAux ws [])
-pack-dict ws = ap (λ (l : List ℕ). pack largest l .dict) (sym (append-nil ws)) ∙ pack-dict-on ws []
+pack-dict ws = sym (dict-packs ws) ∙ dict-comes ws []
 
 pub pack-imps : (ws : List ℕ) → pack largest ws .imps ≡ kept-by (reverseAux ws [])
-pack-imps ws = ap (λ (l : List ℕ). pack largest l .imps) (sym (append-nil ws)) ∙ pack-imps-on ws [] ∙ append-nil (kept-by (reverseAux ws []))
+pack-imps ws = sym (imps-packs ws) ∙ imps-comes ws []
 
 -- the last line comes first
 pub last-first : (ws r : List ℕ) (y : ℕ) → reverseAux (ws ++ (y ∷ [])) r ≡ y ∷ reverseAux ws r
@@ -72,8 +64,4 @@ words-stood (y ∷ r) = omega (arith, length-append (settled-by r) (settled (mov
 
 pub kept-stood : (r : List ℕ) → length (kept-by r) ≡ stood r .kept
 kept-stood [] = refl
-kept-stood (y ∷ r) = let k = move-on largest (stood r .state) y .keeps in length-append (kept-by r) (added k y) ∙ ap₂ _+_ (kept-stood r) (one k)
-  where
-    one : (k : Bool) → length (added k y) ≡ cond k 1 0
-    one true = refl
-    one false = refl
+kept-stood (y ∷ r) = let k = move-on largest (stood r .state) y .keeps in length-append (kept-by r) (added k y) ∙ ap₂ _+_ (kept-stood r) (length-added k y)

@@ -8,10 +8,10 @@ use Rattle.append_examples.proofs.fill.Statement.{statement}
 use Rattle.append_examples.proofs.fill.Tie as tie
 
 abbrev Inv-loop : tie.InvT-loop
-Inv-loop column₀ first v rising i₀ value₀ column i value = length column ≡ length column₀
+Inv-loop column₀ first v i₀ value₀ column i value = length column ≡ length column₀
 
 abbrev μ-loop : tie.MeasureT-loop
-μ-loop column₀ first v rising i₀ value₀ column i value = length column₀ - i
+μ-loop column₀ first v i₀ value₀ column i value = length column₀ - i
 
 loop-holds : tie.Need-loop-holds Inv-loop μ-loop
 loop-holds c = omega arith
@@ -19,8 +19,8 @@ loop-holds c = omega arith
 reading-requires : tie.Need-reading-requires Inv-loop μ-loop
 reading-requires c κs = search needs
 
-mul-t7 : tie.Need-mul-t7 Inv-loop μ-loop
-mul-t7 c = search needs
+mul-t6 : tie.Need-mul-t6 Inv-loop μ-loop
+mul-t6 c = search needs
 
 slice-set-from-column : tie.Need-slice-set-from-column Inv-loop μ-loop
 slice-set-from-column c = omega arith
@@ -51,7 +51,7 @@ fill-spec =
     μ-loop
     loop-holds
     reading-requires
-    mul-t7
+    mul-t6
     slice-set-from-column
     next-requires
     add-i

@@ -1,6 +1,7 @@
--- `shown::front_i32` is safe. Assumes nothing.
+-- `shown::front_i32` meets its contract. Assumes nothing.
 use mathlib.Core.Path.{sym}
-use lib.Seq.{length-take-le}
+use native.Mathlib.Omega.{arith}
+use lib.Seq.{length-take-le, take-all}
 use borrow.Author.Needs.{needs}
 use Rattle.shown.proofs.front_i32.Statement.{statement}
 use Rattle.shown.proofs.front_i32.Tie as tie
@@ -12,7 +13,7 @@ returns : tie.Need-returns
 returns c = search needs
 
 returns-2 : tie.Need-returns-2
-returns-2 c = search needs
+returns-2 c = let a = c .before .args in sym (take-all (a .n) (a .s .now) (omega (arith, c .if1 .left)))
 
 pub front-i32-spec : {M : Type 1} → statement M
 front-i32-spec = tie.close (tie.spec slice-aggregate-result returns returns-2)
