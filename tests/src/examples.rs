@@ -1,5 +1,5 @@
-//! Document 01's examples, and what document 02 says of append, of the plain implementation.
-use crate::inputs::in_spaces;
+//! Document 01's examples, and what document 02 says of append and of faults, of the plain implementation.
+use crate::inputs::{in_spaces, LOWEST};
 use crate::plain::*;
 
 fn column_a() -> Vec<i32> {
@@ -125,8 +125,7 @@ fn append_is_building_with_the_borders_carried() {
     let column: Vec<i32> = (0..130).map(|row| row * row % 11).collect();
     let whole = index(&column);
     for covered in 0..=column.len() {
-        let (imprints, dictionary) = packing(&line_imprints(&column[..covered], &whole.borders));
-        let old = Index { borders: whole.borders.clone(), imprints, dictionary };
+        let old = carried(&column[..covered], &whole.borders);
         assert_eq!(appended(&column, covered, &old), whole);
         let own = index(&column[..covered]);
         for middle in covered..=column.len() {
@@ -134,4 +133,33 @@ fn append_is_building_with_the_borders_carried() {
             assert_eq!(appended(&column, middle, &first), appended(&column, covered, &own));
         }
     }
+}
+
+#[test]
+fn faults_are_left_out_of_the_sample() {
+    assert_eq!(sample(&[3, FAULT, 4, FAULT]), [3, 4]);
+    assert_eq!(borders(&[FAULT; 40]), []);
+    let halves = |even, odd| (0..2049).map(|row| if row % 2 == 0 { even } else { odd }).collect::<Vec<i32>>();
+    assert_eq!(sample(&halves(FAULT, 7)), []);
+    assert_eq!(sample(&halves(7, FAULT)), [7; 1025]);
+}
+
+/// Whatever the borders: bin 0, which is never an inner one, and no match.
+#[test]
+fn faults_lie_in_bin_0() {
+    for borders in [vec![], vec![5, 20], vec![FAULT], vec![FAULT, FAULT + 1], vec![FAULT, 0], (FAULT..FAULT + 63).collect()] {
+        assert_eq!(bin(&borders, FAULT), 0);
+        for (low, high) in LOWEST {
+            let (mask, inner) = masks(&borders, low, high);
+            assert!(!matches(FAULT, low, high));
+            assert_eq!(inner & !mask, 0);
+            assert_eq!(inner & 1, 0);
+            assert!(mask & 1 == 1 || low != FAULT);
+        }
+    }
+    assert_eq!(masks(&[], FAULT, i32::MAX), (1, 0));
+    assert_eq!(masks(&[5], FAULT, i32::MAX), (3, 2));
+    assert_eq!(masks(&[FAULT], FAULT, i32::MAX), (3, 2));
+    assert_eq!(masks(&[FAULT], FAULT + 1, i32::MAX), (2, 0));
+    assert_eq!(masks(&[FAULT], FAULT, FAULT), (1, 0));
 }

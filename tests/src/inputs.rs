@@ -1,6 +1,6 @@
 //! Seeded inputs: columns of every shape, ranges that touch their edges, and damage.
 use crate::held::{case, Word};
-use crate::plain::{self, Filter, Index, Told, COUNT, REPEAT};
+use crate::plain::{self, Filter, Index, Told, COUNT, FAULT, REPEAT};
 
 /// Marsaglia's xorshift.
 pub struct Dice(u64);
@@ -51,14 +51,30 @@ pub fn rounds(few: usize) -> usize {
 pub const LENGTHS: [usize; 24] =
     [0, 1, 2, 15, 16, 17, 31, 32, 33, 47, 48, 61, 64, 65, 100, 992, 1025, 2047, 2048, 2049, 4095, 4096, 4097, 5000];
 
-pub const EXTREMES: [i32; 9] = [i32::MIN, i32::MIN + 1, i32::MIN + 2, -1, 0, 1, i32::MAX - 2, i32::MAX - 1, i32::MAX];
+/// A fault, the smallest readings, the greatest ones, and those around 0.
+pub const EXTREMES: [i32; 9] = [FAULT, FAULT + 1, FAULT + 2, -1, 0, 1, i32::MAX - 2, i32::MAX - 1, i32::MAX];
 
-pub const SHAPES: usize = 16;
+/// Ranges that begin or end at the smallest value, or just above it.
+pub const LOWEST: [(i32, i32); 8] = [
+    (FAULT, FAULT),
+    (FAULT, FAULT + 1),
+    (FAULT, -1),
+    (FAULT, i32::MAX - 1),
+    (FAULT, i32::MAX),
+    (FAULT + 1, FAULT + 1),
+    (FAULT + 1, 0),
+    (FAULT + 1, i32::MAX),
+];
+
+pub const SHAPES: usize = 21;
+/// From this shape on there are faults; before it only an extreme value can be one.
+const FIRST_WITH_FAULTS: usize = 16;
 
 /// A column of this length and shape.
 pub fn column(dice: &mut Dice, length: usize, shape: usize) -> Vec<i32> {
     let different = |dice: &mut Dice, d: usize| -> Vec<i32> {
-        let from = dice.of(&[i32::MIN, -31, 0, i32::MAX - 300]);
+        // From a fault on there is one different reading less.
+        let from = dice.of(&[FAULT, FAULT + 1, -31, 0, i32::MAX - 300]);
         let mut values: Vec<i32> = (0..length).map(|i| from + 3 * (i % d) as i32).collect();
         dice.shuffle(&mut values);
         values
@@ -96,10 +112,25 @@ pub fn column(dice: &mut Dice, length: usize, shape: usize) -> Vec<i32> {
             values
         }
         14 => (0..length).map(|i| if i / 16 % 3 == 0 { 9 } else { -9 }).collect(),
-        _ => {
+        15 => {
             // Long stretches of one imprint, then single odd lines.
             let odd: Vec<bool> = (0..length / 16 + 1).map(|_| dice.one_in(6)).collect();
             (0..length).map(|i| if odd[i / 16] { dice.below(90) as i32 } else { 100 }).collect()
+        }
+        16 => vec![FAULT; length],
+        17 => {
+            let readings = drifting(dice, length);
+            with_faults(dice, readings)
+        }
+        18 => {
+            let shape = dice.below(FIRST_WITH_FAULTS);
+            let readings = column(dice, length, shape);
+            with_faults(dice, readings)
+        }
+        _ => {
+            // Rows that the sample takes (of a long column) are faults, or all others are.
+            let stride = plain::stride(length).max(2);
+            (0..length).map(|i| if (i % stride == 0) == (shape == 19) { FAULT } else { dice.below(70) as i32 }).collect()
         }
     }
 }
@@ -131,6 +162,39 @@ pub fn drifting(dice: &mut Dice, length: usize) -> Vec<i32> {
     values
 }
 
+/// Of the lines, the last one like any other, some become faults altogether, some get one, some get several, and some stay.
+pub fn with_faults(dice: &mut Dice, mut column: Vec<i32>) -> Vec<i32> {
+    for line in column.chunks_mut(plain::ROWS_PER_LINE) {
+        match dice.below(4) {
+            0 => line.fill(FAULT),
+            1 => line[dice.below(line.len())] = FAULT,
+            2 => line.iter_mut().filter(|_| dice.one_in(3)).for_each(|v| *v = FAULT),
+            _ => (),
+        }
+    }
+    column
+}
+
+/// Borders of which the smallest value is the first: alone, beside the next value, among others, and 63 of them.
+pub fn borders_from_the_smallest(dice: &mut Dice, column: &[i32]) -> Vec<i32> {
+    let mut above = match dice.below(6) {
+        0 => vec![],
+        1 => vec![FAULT + 1],
+        2 => vec![dice.of(&[FAULT + 2, -9, 0, 9, 100, i32::MAX])],
+        3 => (1..63).map(|i| FAULT + i).collect(),
+        4 => {
+            let from = dice.of(&[-31, 0, 1000]);
+            (from..from + 62).collect()
+        }
+        _ => plain::borders(column),
+    };
+    above.push(FAULT);
+    above.sort();
+    above.dedup();
+    above.truncate(63);
+    above
+}
+
 /// An end of a range: near a value, near a border, or near an edge.
 pub fn end(dice: &mut Dice, column: &[i32], borders: &[i32]) -> i32 {
     let near = dice.below(3) as i32 - 1;
@@ -143,13 +207,14 @@ pub fn end(dice: &mut Dice, column: &[i32], borders: &[i32]) -> i32 {
     }
 }
 
-/// Mostly low to high, now and then the wrong way round.
+/// Mostly low to high, now and then from the smallest value up, or the wrong way round.
 pub fn range(dice: &mut Dice, column: &[i32], borders: &[i32]) -> (i32, i32) {
     let (a, b) = (end(dice, column, borders), end(dice, column, borders));
-    if dice.one_in(8) {
-        (a, b)
-    } else {
-        (a.min(b), a.max(b))
+    match dice.below(8) {
+        0 => (a, b),
+        1 => (FAULT, b),
+        2 => dice.of(&LOWEST),
+        _ => (a.min(b), a.max(b)),
     }
 }
 
@@ -183,7 +248,9 @@ fn spot<T>(dice: &mut Dice, all: &mut [T]) -> Option<usize> {
     (!all.is_empty()).then(|| dice.below(all.len()))
 }
 
-pub const INDEX_DAMAGES: usize = 17;
+pub const INDEX_DAMAGES: usize = 18;
+/// From this damage on it is the borders that are damaged.
+pub const FIRST_OF_BORDERS: usize = 13;
 
 /// One damage to an index. It may still be a packed form afterwards: the plain implementation knows.
 pub fn damage(dice: &mut Dice, index: &mut Index, kind: usize) {
@@ -213,6 +280,7 @@ pub fn damage(dice: &mut Dice, index: &mut Index, kind: usize) {
         13 => b.into_iter().for_each(|b| borders[b] = dice.word() as i32),
         14 => b.into_iter().for_each(|b| borders.swap(b, 0)),
         15 => b.into_iter().for_each(|b| borders[b] = borders[b.saturating_sub(1)]),
+        16 => borders.first_mut().into_iter().for_each(|first| *first = FAULT),
         _ => {
             if dice.one_in(2) {
                 borders.pop();
@@ -245,7 +313,7 @@ fn split_entry(dice: &mut Dice, dictionary: &mut Vec<u32>, imprints: &mut Vec<u6
 
 /// An index that is not the column's own, or not an index at all.
 pub fn strange_index(dice: &mut Dice, column: &[i32]) -> Index {
-    let mut index = match dice.below(4) {
+    let mut index = match dice.below(5) {
         0 => {
             let shape = dice.below(SHAPES);
             plain::index(&self::column(dice, column.len(), shape))
@@ -255,6 +323,7 @@ pub fn strange_index(dice: &mut Dice, column: &[i32]) -> Index {
             let shape = dice.below(SHAPES);
             plain::index(&self::column(dice, length, shape))
         }
+        2 => plain::carried(column, &borders_from_the_smallest(dice, column)),
         _ => plain::index(column),
     };
     for _ in 0..dice.below(3) {

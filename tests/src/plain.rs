@@ -27,13 +27,32 @@ pub fn lines(rows: usize) -> usize {
     rows.div_ceil(ROWS_PER_LINE)
 }
 
+/// Document 02, request 102: a dead probe sends the smallest value. It is no reading.
+pub const FAULT: i32 = i32::MIN;
+
+pub fn fault(v: i32) -> bool {
+    v == FAULT
+}
+
+pub fn stride(rows: usize) -> usize {
+    if rows <= 2048 {
+        1
+    } else {
+        rows.div_ceil(2048)
+    }
+}
+
+/// The stride counts every row; faults among the rows it meets are left out.
 pub fn sample(column: &[i32]) -> Vec<i32> {
-    let stride = if column.len() <= 2048 { 1 } else { column.len().div_ceil(2048) };
-    column.iter().copied().step_by(stride).collect()
+    column.iter().copied().step_by(stride(column.len())).filter(|&v| !fault(v)).collect()
 }
 
 pub fn borders(column: &[i32]) -> Vec<i32> {
-    let mut sorted = sample(column);
+    borders_of(sample(column))
+}
+
+pub fn borders_of(sample: Vec<i32>) -> Vec<i32> {
+    let mut sorted = sample;
     sorted.sort();
     let mut different = sorted.clone();
     different.dedup();
@@ -47,7 +66,11 @@ pub fn borders(column: &[i32]) -> Vec<i32> {
     chosen
 }
 
+/// A fault lies in bin 0 whatever the borders, and so does a range's end that is the smallest value.
 pub fn bin(borders: &[i32], v: i32) -> usize {
+    if fault(v) {
+        return 0;
+    }
     borders.iter().filter(|&&b| b <= v).count()
 }
 
@@ -173,11 +196,15 @@ pub struct Index {
     pub dictionary: Vec<u32>,
 }
 
+/// What building over a column gives with these borders carried.
+pub fn carried(column: &[i32], borders: &[i32]) -> Index {
+    let (imprints, dictionary) = packing(&line_imprints(column, borders));
+    Index { borders: borders.to_vec(), imprints, dictionary }
+}
+
 /// The index of a column, whatever its length and the spaces lent.
 pub fn index(column: &[i32]) -> Index {
-    let borders = borders(column);
-    let (imprints, dictionary) = packing(&line_imprints(column, &borders));
-    Index { borders, imprints, dictionary }
+    carried(column, &borders(column))
 }
 
 /// `spaces`: how long the border, imprint and dictionary spaces are.
@@ -185,7 +212,11 @@ pub fn build(column: &[i32], spaces: [usize; 3]) -> Result<Index, No> {
     if ROWS_AT_MOST < column.len() {
         return no(2);
     }
-    let index = index(column);
+    fitting(index(column), spaces)
+}
+
+/// The first part that its space is too short for is refused with its length.
+pub fn fitting(index: Index, spaces: [usize; 3]) -> Result<Index, No> {
     let needed = [index.borders.len(), index.imprints.len(), index.dictionary.len()];
     for i in 0..3 {
         if spaces[i] < needed[i] {
@@ -290,13 +321,13 @@ pub fn span(borders: &[i32], bin: usize) -> (i64, i64) {
     (from, to)
 }
 
-/// The mask and the inner mask of a range.
+/// The mask and the inner mask of a range. Bin 0, where faults lie, is never an inner one.
 pub fn masks(borders: &[i32], low: i32, high: i32) -> (u64, u64) {
     let (mut mask, mut inner) = (0, 0);
     for b in bin(borders, low)..=bin(borders, high) {
         mask |= 1u64 << b;
         let (from, to) = span(borders, b);
-        if low as i64 <= from && to <= high as i64 {
+        if b != 0 && low as i64 <= from && to <= high as i64 {
             inner |= 1u64 << b;
         }
     }
@@ -311,8 +342,13 @@ pub struct Found {
     pub compared: u64,
 }
 
-pub fn rows_of(column: &[i32], borders: &[i32], list: &[u64], low: i32, high: i32) -> Found {
-    let (mask, inner) = masks(borders, low, high);
+/// A fault matches no range.
+pub fn matches(v: i32, low: i32, high: i32) -> bool {
+    !fault(v) && low <= v && v <= high
+}
+
+/// What the lines of these imprints list with these masks.
+pub fn rows_of(column: &[i32], list: &[u64], (mask, inner): (u64, u64), low: i32, high: i32) -> Found {
     let mut found = Found::default();
     for (line, &word) in list.iter().enumerate() {
         let rows = line * ROWS_PER_LINE..column.len().min((line + 1) * ROWS_PER_LINE);
@@ -323,7 +359,7 @@ pub fn rows_of(column: &[i32], borders: &[i32], list: &[u64], low: i32, high: i3
             found.ids.extend(rows.map(|row| row as u32));
         } else {
             found.compared += rows.len() as u64;
-            found.ids.extend(rows.filter(|&row| low <= column[row] && column[row] <= high).map(|row| row as u32));
+            found.ids.extend(rows.filter(|&row| matches(column[row], low, high)).map(|row| row as u32));
         }
     }
     found
@@ -331,7 +367,7 @@ pub fn rows_of(column: &[i32], borders: &[i32], list: &[u64], low: i32, high: i3
 
 /// What a plain scan lists.
 pub fn scan(column: &[i32], low: i32, high: i32) -> Vec<u32> {
-    (0..column.len()).filter(|&row| low <= column[row] && column[row] <= high).map(|row| row as u32).collect()
+    (0..column.len()).filter(|&row| matches(column[row], low, high)).map(|row| row as u32).collect()
 }
 
 fn index_list(column: &[i32], borders: &[i32], imprints: &[u64], dictionary: &[u32]) -> Result<Vec<u64>, No> {
@@ -358,7 +394,7 @@ pub fn search(
     if high < low {
         return no(1);
     }
-    let found = rows_of(column, borders, &list, low, high);
+    let found = rows_of(column, &list, masks(borders, low, high), low, high);
     if space < found.ids.len() {
         return short(found.ids.len());
     }
@@ -584,7 +620,7 @@ impl Outcome {
     }
 }
 
-/// The widest range of keys around low to high that no column value lies in; there is none if one lies in that range.
+/// The widest range of keys around low to high that no column value lies in; there is none if one lies in that range. Faults are no keys.
 pub fn gap(column: &[i32], keys: u32, low: u32, high: u32) -> Option<(u32, u32)> {
     let values: Vec<u32> = column.iter().filter(|&&v| 0 <= v && v < keys as i32).map(|&v| v as u32).collect();
     if values.iter().any(|&v| low <= v && v <= high) {

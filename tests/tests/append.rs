@@ -1,7 +1,7 @@
 //! Append, document 02's request 101, held against the plain implementation.
 use outside_tests::held::{self, Numbers};
 use outside_tests::inputs::{self, every_column, in_spaces, rounds, strange_index, Dice};
-use outside_tests::plain::{self, Index, Told, REPEAT};
+use outside_tests::plain::{self, carried, Index, Told, REPEAT};
 
 /// Covered numbers at the edges of lines, at both ends of the column, and anywhere.
 fn cuts(dice: &mut Dice, rows: usize) -> Vec<usize> {
@@ -10,12 +10,6 @@ fn cuts(dice: &mut Dice, rows: usize) -> Vec<usize> {
     cuts.sort();
     cuts.dedup();
     cuts
-}
-
-/// What building over the column gives with these borders carried.
-fn carried(column: &[i32], borders: &[i32]) -> Index {
-    let (imprints, dictionary) = plain::packing(&plain::line_imprints(column, borders));
-    Index { borders: borders.to_vec(), imprints, dictionary }
 }
 
 /// The index in spaces that are long enough for any of a column with so many rows.

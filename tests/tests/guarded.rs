@@ -1,15 +1,20 @@
 //! The search with both, and demand 3's bound.
 use outside_tests::inputs::{self, rounds, Dice};
-use outside_tests::plain::{self, Index, Outcome};
+use outside_tests::plain::{self, Index, Outcome, FAULT};
 use outside_tests::{face, held};
 
-/// A column of minutes for `levels` levels: some keys, some repeated, some values that are no keys.
+/// A column of minutes for `levels` levels: some keys, some repeated, some values that are no keys, and in every third column many faults.
 fn column(dice: &mut Dice, levels: u32, different: usize) -> Vec<i32> {
     let keys = 1usize << levels;
     let pool: Vec<i32> = (0..different).map(|_| dice.below(keys) as i32).collect();
     let length = if different == 0 { dice.below(20) } else { dice.below(120) };
-    let strange = [-1, i32::MIN, keys as i32, keys as i32 + 1, i32::MAX];
-    (0..length).map(|_| if different == 0 || dice.one_in(9) { dice.of(&strange) } else { dice.of(&pool) }).collect()
+    let strange = [-1, FAULT, keys as i32, keys as i32 + 1, i32::MAX];
+    let minutes = (0..length).map(|_| if different == 0 || dice.one_in(9) { dice.of(&strange) } else { dice.of(&pool) }).collect();
+    if dice.one_in(3) {
+        inputs::with_faults(dice, minutes)
+    } else {
+        minutes
+    }
 }
 
 fn fresh(levels: u32, room: u32, extra: usize) -> Vec<u32> {
@@ -62,10 +67,12 @@ fn sequences() {
     }
 }
 
-/// Another column's index of as many lines, or a damaged one.
+/// Another column's index of as many lines, one whose first border is the smallest value, or a damaged one.
 fn strange_index(dice: &mut Dice, column: &[i32], own: &Index) -> Index {
-    if dice.one_in(2) {
-        return plain::index(&vec![dice.below(9) as i32; column.len()]);
+    match dice.below(5) {
+        0 | 1 => return plain::index(&vec![dice.below(9) as i32; column.len()]),
+        2 => return plain::carried(column, &inputs::borders_from_the_smallest(dice, column)),
+        _ => (),
     }
     let mut index = own.clone();
     let kind = dice.below(inputs::INDEX_DAMAGES);
@@ -139,14 +146,14 @@ fn wasted_looks() {
     }
 }
 
-/// The bound over the library alone, with more keys than the plain filter is quick for.
+/// The bound over the library alone, with more keys than the plain filter is quick for, and faults, which are no keys.
 #[test]
 fn wasted_looks_of_a_long_column() {
     let mut dice = Dice::new(90);
     let levels = 16;
     let minutes: Vec<i32> = (0..200).map(|_| dice.below(1 << levels) as i32).collect();
-    let column: Vec<i32> = (0..5000).map(|_| dice.of(&minutes)).collect();
-    let mut present = column.clone();
+    let column: Vec<i32> = (0..5000).map(|_| if dice.one_in(9) { FAULT } else { dice.of(&minutes) }).collect();
+    let mut present: Vec<i32> = column.iter().copied().filter(|&v| v != FAULT).collect();
     present.sort();
     present.dedup();
     let index = held::build(&column, [63, 400, 400]).unwrap();

@@ -101,7 +101,7 @@ fn pack_and_unpack() {
             }
             if dice.one_in(3) {
                 let mut other = index.clone();
-                let kind = 13 + dice.below(4);
+                let kind = dice.below(inputs::INDEX_DAMAGES - inputs::FIRST_OF_BORDERS) + inputs::FIRST_OF_BORDERS;
                 inputs::damage(dice, &mut other, kind);
                 borders = other.borders;
             }

@@ -17,76 +17,125 @@ use Rattle.words.specs.Bits.{bit}
 use Rattle.words.proofs.Order.{leZ-trans, leZ-no, ltZ-trans, ltZ-nle, ltZ-pred}
 use Rattle.words.proofs.ListLaws.{pieces-count}
 use Rattle.words.proofs.BitLaws.{bit-word, word-lt}
-use Rattle.bins.specs.Bins.{Kind, bin, bins, imprint, imprints, rising, rising-from}
+use Rattle.bins.specs.Bins.{Kind, fault, not-above, bin, bins, imprint, imprints, rising, rising-from}
+
+-- ---- the number of borders not above a value
+
+above-mono : (bs : List ℤ) (u v : ℤ) → leZ u v ≡ true → not-above bs u ≤ not-above bs v
+unfolding not-above
+above-mono [] u v h = omega arith
+above-mono (b ∷ bs) u v h = go (leZ b u) refl (leZ b v) refl (above-mono bs u v h)
+  where
+    go : (x : Bool) → leZ b u ≡ x → (y : Bool) → leZ b v ≡ y → not-above bs u ≤ not-above bs v → cond x (suc (not-above bs u)) (not-above bs u) ≤ cond y (suc (not-above bs v)) (not-above bs v)
+    go true p true q ih = omega arith
+    go true p false q ih = absurd (false≢true (sym q ∙ leZ-trans b u v p h))
+    go false p true q ih = omega arith
+    go false p false q ih = ih
+
+above-le : (bs : List ℤ) (v : ℤ) → not-above bs v ≤ length bs
+unfolding not-above
+above-le [] v = omega arith
+above-le (b ∷ bs) v = go (leZ b v) (above-le bs v)
+  where
+    go : (x : Bool) → not-above bs v ≤ length bs → cond x (suc (not-above bs v)) (not-above bs v) ≤ suc (length bs)
+    go true ih = omega arith
+    go false ih = omega arith
+
+above-zero : (bs : List ℤ) (b v : ℤ) → rising-from b bs ≡ true → ltZ v b ≡ true → not-above bs v ≡ 0
+unfolding not-above
+above-zero [] b v h g = refl
+above-zero (c ∷ cs) b v h g =
+    let k = and-eq-true-iff (ltZ b c) (rising-from c cs) .0 h in
+    let l = ltZ-trans v b c g (k .0) in
+    rw (ltZ-nle v c l) (above-zero cs c v (k .1) l)
+
+rising-tail : (b : ℤ) (bs : List ℤ) → rising-from b bs ≡ true → rising bs ≡ true
+rising-tail b [] h = refl
+rising-tail b (c ∷ cs) h = and-eq-true-iff (ltZ b c) (rising-from c cs) .0 h .1
+
+above-first : (bs : List ℤ) (a d v : ℤ) → rising bs ≡ true → leZ a v ≡ true → leZ (getD (a ∷ bs) (not-above bs v) d) v ≡ true
+unfolding not-above
+above-first [] a d v r h = h
+above-first (b ∷ bs) a d v r h = go (leZ b v) refl (above-first bs b d v (rising-tail b bs r))
+  where
+    go : (x : Bool) → leZ b v ≡ x → (leZ b v ≡ true → leZ (getD (b ∷ bs) (not-above bs v) d) v ≡ true) → leZ (getD (a ∷ b ∷ bs) (cond x (suc (not-above bs v)) (not-above bs v)) d) v ≡ true
+    go true t ih = ih t
+    go false t ih = rw (above-zero bs b v r (leZ-no b v t)) h
+
+above-last : (bs : List ℤ) (z d v : ℤ) → rising bs ≡ true → leZ v z ≡ true → leZ v (getD (map predℤ bs ++ (z ∷ [])) (not-above bs v) d) ≡ true
+unfolding not-above
+above-last [] z d v r h = h
+above-last (b ∷ bs) z d v r h = go (leZ b v) refl (above-last bs z d v (rising-tail b bs r) h)
+  where
+    go : (x : Bool) → leZ b v ≡ x → leZ v (getD (map predℤ bs ++ (z ∷ [])) (not-above bs v) d) ≡ true → leZ v (getD (predℤ b ∷ (map predℤ bs ++ (z ∷ []))) (cond x (suc (not-above bs v)) (not-above bs v)) d) ≡ true
+    go true t ih = ih
+    go false t ih = rw (above-zero bs b v r (leZ-no b v t)) (ltZ-pred v b (leZ-no b v t))
+
+-- ---- for the loop that counts them
+
+above-next : (bs : List ℤ) (v d : ℤ) (i : ℕ) → i < length bs → not-above (drop i bs) v ≡ cond (leZ (getD bs i d) v) (suc (not-above (drop (i + 1) bs) v)) (not-above (drop (i + 1) bs) v)
+unfolding not-above
+above-next bs v d i h = rw (drop-cons bs i d h, add-one i)
+
+pub above-end : (bs : List ℤ) (v : ℤ) (i : ℕ) → length bs ≤ i → not-above (drop i bs) v ≡ 0
+unfolding not-above
+above-end bs v i h = rw (drop-of-length-le bs h)
+
+pub above-yes : (bs : List ℤ) (v d : ℤ) (i : ℕ) → i < length bs → leZ (getD bs i d) v ≡ true → not-above (drop i bs) v ≡ suc (not-above (drop (i + 1) bs) v)
+above-yes bs v d i h e = above-next bs v d i h ∙ ap (λ (t : Bool). cond t (suc (not-above (drop (i + 1) bs) v)) (not-above (drop (i + 1) bs) v)) e
+
+pub above-not : (bs : List ℤ) (v d : ℤ) (i : ℕ) → i < length bs → leZ (getD bs i d) v ≡ false → not-above (drop i bs) v ≡ not-above (drop (i + 1) bs) v
+above-not bs v d i h e = above-next bs v d i h ∙ ap (λ (t : Bool). cond t (suc (not-above (drop (i + 1) bs) v)) (not-above (drop (i + 1) bs) v)) e
 
 module _ (k : Kind) where
+  -- ---- the bin of a value
+
+  -- a fault lies in bin 0, and any other value where its borders are counted
+  pub fault-bin : (bs : List ℤ) (v : ℤ) → fault k v ≡ true → bin k bs v ≡ 0
+  unfolding bin
+  fault-bin bs v e = rw e
+
+  pub reading-bin : (bs : List ℤ) (v : ℤ) → fault k v ≡ false → bin k bs v ≡ not-above bs v
+  unfolding bin
+  reading-bin bs v e = rw e
+
+  -- so what lies in another bin is no fault
+  pub bin-reading : (bs : List ℤ) (v : ℤ) → 1 ≤ bin k bs v → fault k v ≡ false
+  bin-reading bs v h = go (fault k v) refl
+    where
+      go : (t : Bool) → fault k v ≡ t → fault k v ≡ false
+      go true e = absurd (omega (arith, fault-bin bs v e))
+      go false e = e
+
   pub bin-mono : (bs : List ℤ) (u v : ℤ) → leZ u v ≡ true → bin k bs u ≤ bin k bs v
   unfolding bin
-  bin-mono [] u v h = omega arith
-  bin-mono (b ∷ bs) u v h = go (leZ b u) refl (leZ b v) refl (bin-mono bs u v h)
+  bin-mono bs u v h = go (fault k u) refl (fault k v) refl
     where
-      go : (x : Bool) → leZ b u ≡ x → (y : Bool) → leZ b v ≡ y → bin k bs u ≤ bin k bs v → cond x (suc (bin k bs u)) (bin k bs u) ≤ cond y (suc (bin k bs v)) (bin k bs v)
-      go true p true q ih = omega arith
-      go true p false q ih = absurd (false≢true (sym q ∙ leZ-trans b u v p h))
-      go false p true q ih = omega arith
-      go false p false q ih = ih
+      go : (x : Bool) → fault k u ≡ x → (y : Bool) → fault k v ≡ y → cond x 0 (not-above bs u) ≤ cond y 0 (not-above bs v)
+      go true p y q = omega arith
+      go false p true q = absurd (false≢true (sym p ∙ leZ-trans u v (k .least) h q))
+      go false p false q = above-mono bs u v h
 
   pub bin-le : (bs : List ℤ) (v : ℤ) → bin k bs v ≤ length bs
   unfolding bin
-  bin-le [] v = omega arith
-  bin-le (b ∷ bs) v = go (leZ b v) (bin-le bs v)
+  bin-le bs v = go (fault k v) (above-le bs v)
     where
-      go : (x : Bool) → bin k bs v ≤ length bs → cond x (suc (bin k bs v)) (bin k bs v) ≤ suc (length bs)
-      go true ih = omega arith
-      go false ih = omega arith
-
-  bin-zero : (bs : List ℤ) (b v : ℤ) → rising-from b bs ≡ true → ltZ v b ≡ true → bin k bs v ≡ 0
-  unfolding bin
-  bin-zero [] b v h g = refl
-  bin-zero (c ∷ cs) b v h g =
-      let k = and-eq-true-iff (ltZ b c) (rising-from c cs) .0 h in
-      let l = ltZ-trans v b c g (k .0) in
-      rw (ltZ-nle v c l) (bin-zero cs c v (k .1) l)
-
-  rising-tail : (b : ℤ) (bs : List ℤ) → rising-from b bs ≡ true → rising bs ≡ true
-  rising-tail b [] h = refl
-  rising-tail b (c ∷ cs) h = and-eq-true-iff (ltZ b c) (rising-from c cs) .0 h .1
+      go : (x : Bool) → not-above bs v ≤ length bs → cond x 0 (not-above bs v) ≤ length bs
+      go true l = omega arith
+      go false l = l
 
   -- the bin of v begins at or below v
   pub first-le : (bs : List ℤ) (a d v : ℤ) → rising bs ≡ true → leZ a v ≡ true → leZ (getD (a ∷ bs) (bin k bs v) d) v ≡ true
   unfolding bin
-  first-le [] a d v r h = h
-  first-le (b ∷ bs) a d v r h = go (leZ b v) refl (first-le bs b d v (rising-tail b bs r))
+  first-le bs a d v r h = go (fault k v)
     where
-      go : (x : Bool) → leZ b v ≡ x → (leZ b v ≡ true → leZ (getD (b ∷ bs) (bin k bs v) d) v ≡ true) → leZ (getD (a ∷ b ∷ bs) (cond x (suc (bin k bs v)) (bin k bs v)) d) v ≡ true
-      go true t ih = ih t
-      go false t ih = rw (bin-zero bs b v r (leZ-no b v t)) h
+      go : (x : Bool) → leZ (getD (a ∷ bs) (cond x 0 (not-above bs v)) d) v ≡ true
+      go true = h
+      go false = above-first bs a d v r h
 
-  -- and ends at or above it
-  pub last-ge : (bs : List ℤ) (z d v : ℤ) → rising bs ≡ true → leZ v z ≡ true → leZ v (getD (map predℤ bs ++ (z ∷ [])) (bin k bs v) d) ≡ true
-  unfolding bin
-  last-ge [] z d v r h = h
-  last-ge (b ∷ bs) z d v r h = go (leZ b v) refl (last-ge bs z d v (rising-tail b bs r) h)
-    where
-      go : (x : Bool) → leZ b v ≡ x → leZ v (getD (map predℤ bs ++ (z ∷ [])) (bin k bs v) d) ≡ true → leZ v (getD (predℤ b ∷ (map predℤ bs ++ (z ∷ []))) (cond x (suc (bin k bs v)) (bin k bs v)) d) ≡ true
-      go true t ih = ih
-      go false t ih = rw (bin-zero bs b v r (leZ-no b v t)) (ltZ-pred v b (leZ-no b v t))
-
-  -- ---- for the loop that finds a bin
-
-  pub bin-next : (bs : List ℤ) (v d : ℤ) (i : ℕ) → i < length bs → bin k (drop i bs) v ≡ cond (leZ (getD bs i d) v) (suc (bin k (drop (i + 1) bs) v)) (bin k (drop (i + 1) bs) v)
-  unfolding bin
-  bin-next bs v d i h = rw (drop-cons bs i d h, add-one i)
-
-  pub bin-end : (bs : List ℤ) (v : ℤ) (i : ℕ) → length bs ≤ i → bin k (drop i bs) v ≡ 0
-  unfolding bin
-  bin-end bs v i h = rw (drop-of-length-le bs h)
-
-  pub bin-yes : (bs : List ℤ) (v d : ℤ) (i : ℕ) → i < length bs → leZ (getD bs i d) v ≡ true → bin k (drop i bs) v ≡ suc (bin k (drop (i + 1) bs) v)
-  bin-yes bs v d i h e = bin-next bs v d i h ∙ ap (λ (t : Bool). cond t (suc (bin k (drop (i + 1) bs) v)) (bin k (drop (i + 1) bs) v)) e
-
-  pub bin-not : (bs : List ℤ) (v d : ℤ) (i : ℕ) → i < length bs → leZ (getD bs i d) v ≡ false → bin k (drop i bs) v ≡ bin k (drop (i + 1) bs) v
-  bin-not bs v d i h e = bin-next bs v d i h ∙ ap (λ (t : Bool). cond t (suc (bin k (drop (i + 1) bs) v)) (bin k (drop (i + 1) bs) v)) e
+  -- and ends at or above it, unless v is a fault: that lies in bin 0 even where the first border is not above it
+  pub last-ge : (bs : List ℤ) (z d v : ℤ) → rising bs ≡ true → fault k v ≡ false → leZ v z ≡ true → leZ v (getD (map predℤ bs ++ (z ∷ [])) (bin k bs v) d) ≡ true
+  last-ge bs z d v r f h = rw (reading-bin bs v f) (above-last bs z d v r h)
 
   -- ---- imprints
 

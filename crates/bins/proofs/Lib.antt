@@ -5,3 +5,4 @@ pub mod TurnLaws
 pub mod LineLaws
 pub mod SortLaws
 pub mod SampleLaws
+pub mod FaultLaws

@@ -1,21 +1,21 @@
 -- The sample, the spread and the different values, as loops write them. Assumes nothing.
 use Prim.Native.Nat.{ℕ, suc, _+_, _-_, _*_, _/_, _≤_, _<_}
 use mathlib.Core.Path.{_≡_, refl, sym, _∙_, ap}
-use mathlib.Core.List.{List, [], _∷_, _++_, map, append-nil}
+use mathlib.Core.List.{List, [], _∷_, _++_, map, append-nil, append-assoc}
 use mathlib.Core.Bool.{Bool, true, false, cond, and-eq-true-iff}
 use native.Mathlib.Nat.{le-of-suc-le-suc, suc-mul, mul-comm, zero-add, div-lt-iff-lt-mul, le-div-iff-mul-le}
 use native.Mathlib.Numerals.{add-one}
 use native.Mathlib.Omega.{arith}
 use lib.Dec.{leb}
-use lib.ListN.{length, getD, take, drop, set, length-set, length-map, List·getD-append, drop-of-length-le}
-use lib.Seq.{drop-cons, take-all, take-at}
+use lib.ListN.{length, getD, take, drop, set, length-set, length-map, length-append, List·getD-append, drop-of-length-le}
+use lib.Seq.{drop-cons, take-all, take-at, length-take-le, sets, length-sets, sets-eq}
 use lib.IntN.{ℤ, pos}
 use lib.Signed.{leZ}
 use borrow.Author.Tests.{leb-true, leb-false, le-leb, lt-leb}
 use Rattle.words.specs.Lists.{from, ceil}
 use Rattle.words.proofs.Order.{leZ-refl}
 use Rattle.words.proofs.ListLaws.{length-from, ceil-reach}
-use Rattle.bins.specs.Bins.{Kind, most-rows, stride, sampled, sample, sort, keep, once, eqZ, spread, borders-of, borders-sorted}
+use Rattle.bins.specs.Bins.{Kind, fault, most-rows, stride, sampled, without-faults, sample, sort, keep, once, eqZ, spread, borders-of, borders-sorted}
 use Rattle.bins.proofs.BorderLaws.{both, once-length, spread-length}
 use Rattle.bins.proofs.LineLaws.{from-place}
 use Rattle.bins.proofs.SortLaws.{leZ-same, sort-length, write-next}
@@ -56,33 +56,96 @@ sample-few n = go (leb n 2048) refl
     go true t = ceil-le n 1 2048 (omega arith) (omega (arith, leb-true n 2048 t))
     go false t = ceil-le n (ceil n 2048) 2048 (omega (arith, leb-false n 2048 t)) (omega arith)
 
-module _ (k : Kind) (col : List ℤ) where
-  pub sample-length : length (sample k col) ≡ ceil (length col) (stride (length col))
-  unfolding sample sampled
-  sample-length = length-map (from 0 (ceil (length col) (stride (length col)))) (λ (i : ℕ). getD col (i * stride (length col)) (pos 0)) ∙ length-from (ceil (length col) (stride (length col))) 0
+-- ---- faults are left out
 
-  sample-at : (i : ℕ) → i < ceil (length col) (stride (length col)) → getD (sample k col) i (pos 0) ≡ getD col (i * stride (length col)) (pos 0)
-  unfolding sample sampled
-  sample-at i h =
+without-le : (k : Kind) (vs : List ℤ) → length (without-faults k vs) ≤ length vs
+without-le k [] = omega arith
+without-le k (v ∷ vs) = go (fault k v) (without-le k vs)
+  where
+    go : (t : Bool) → length (without-faults k vs) ≤ length vs → length (cond t (without-faults k vs) (v ∷ without-faults k vs)) ≤ suc (length vs)
+    go true h = omega arith
+    go false h = omega arith
+
+-- one value by itself, and those behind it
+without-cons : (k : Kind) (v : ℤ) (vs : List ℤ) → without-faults k (v ∷ vs) ≡ without-faults k (v ∷ []) ++ without-faults k vs
+without-cons k v vs = go (fault k v)
+  where
+    go : (t : Bool) → cond t (without-faults k vs) (v ∷ without-faults k vs) ≡ cond t [] (v ∷ []) ++ without-faults k vs
+    go true = refl
+    go false = refl
+
+module _ (k : Kind) (col : List ℤ) where
+  sampled-length : length (sampled (stride (length col)) col) ≡ ceil (length col) (stride (length col))
+  unfolding sampled
+  sampled-length = length-map (from 0 (ceil (length col) (stride (length col)))) (λ (i : ℕ). getD col (i * stride (length col)) (pos 0)) ∙ length-from (ceil (length col) (stride (length col))) 0
+
+  sampled-at : (i : ℕ) → i < ceil (length col) (stride (length col)) → getD (sampled (stride (length col)) col) i (pos 0) ≡ getD col (i * stride (length col)) (pos 0)
+  unfolding sampled
+  sampled-at i h =
       from-place (λ (i : ℕ). getD col (i * stride (length col)) (pos 0)) (pos 0) 0 (ceil (length col) (stride (length col))) i h
       ∙ ap (λ (j : ℕ). getD col (j * stride (length col)) (pos 0)) (zero-add i)
 
-  -- one row more is sampled
-  pub sample-turn : (out : List ℤ) (i at : ℕ) → at ≡ i * stride (length col) → at < length col → 2048 ≤ length out → take i out ++ drop i (sample k col) ≡ sample k col → (i < 2048) × (i + 1 ≤ length (sample k col)) × (take (i + 1) (set out i (getD col at (pos 0))) ++ drop (i + 1) (sample k col) ≡ sample k col)
-  sample-turn out i at e h l q =
-      let c : i < ceil (length col) (stride (length col)) = lt-ceil (length col) (stride (length col)) i (stride-pos (length col)) (omega arith) in
-      let m : i < 2048 = omega (arith, sample-few (length col)) in
-      let j : i < length (sample k col) = omega (arith, sample-length) in
-      let d : drop i (sample k col) ≡ getD col at (pos 0) ∷ drop (i + 1) (sample k col) =
-      rw add-one (drop-cons (sample k col) i (pos 0) j ∙ ap (λ (x : ℤ). x ∷ drop (suc i) (sample k col)) (sample-at i c ∙ ap (λ (n : ℕ). getD col n (pos 0)) (sym e))) in
-      (m, omega arith, write-next out i (getD col at (pos 0)) (drop (i + 1) (sample k col)) (sample k col) (omega arith) (ap (λ (t : List ℤ). take i out ++ t) (sym d) ∙ q))
+  -- a sample has at most 2,048 values
+  pub sample-le : length (sample k col) ≤ 2048
+  unfolding sample
+  sample-le = omega (arith, without-le k (sampled (stride (length col)) col), sampled-length, sample-few (length col))
 
-  -- the rows are all sampled
-  pub sample-end : (out : List ℤ) (i at : ℕ) → at ≡ i * stride (length col) → length col ≤ at → i ≤ length (sample k col) → take i out ++ drop i (sample k col) ≡ sample k col → (i ≡ length (sample k col)) × (take i out ≡ sample k col)
-  sample-end out i at e h l q =
-      let c : ceil (length col) (stride (length col)) ≤ i = ceil-le (length col) (stride (length col)) i (stride-pos (length col)) (omega arith) in
-      let d : drop i (sample k col) ≡ [] = drop-of-length-le (sample k col) {i = i} (omega (arith, sample-length)) in
-      (omega (arith, sample-length), sym (append-nil (take i out)) ∙ ap (λ (t : List ℤ). take i out ++ t) (sym d) ∙ q)
+  -- what the sampled rows from the n-th on add
+  abbrev pub still : ℕ → List ℤ
+  still n = without-faults k (drop n (sampled (stride (length col)) col))
+
+  -- The loop that writes the sample: n rows are done, i values written, and row `at` is the next.
+  pub record Sampling (out : List ℤ) (n i at : ℕ) : Type 0 where
+    pub reached : at ≡ n * stride (length col)
+    pub few : i ≤ n
+    pub room : i ≤ length out
+    pub adds : take i out ++ still n ≡ sample k col
+
+  pub sampling-starts : (out : List ℤ) → Sampling out 0 0 0
+  unfolding sample
+  sampling-starts out = record { reached = omega arith; few = omega arith; room = omega arith; adds = refl }
+
+  -- there is a place for the next value
+  pub sampling-room : (out : List ℤ) (n i at : ℕ) → Sampling out n i at → at < length col → i < 2048
+  sampling-room out n i at s h =
+      omega (arith, s .few, lt-ceil (length col) (stride (length col)) n (stride-pos (length col)) (omega (arith, s .reached)), sample-few (length col))
+
+  still-next : (n at : ℕ) → at ≡ n * stride (length col) → at < length col → still n ≡ without-faults k (getD col at (pos 0) ∷ []) ++ still (n + 1)
+  still-next n at e h =
+      let c : n < ceil (length col) (stride (length col)) = lt-ceil (length col) (stride (length col)) n (stride-pos (length col)) (omega arith) in
+      let d : drop n (sampled (stride (length col)) col) ≡ getD col at (pos 0) ∷ drop (n + 1) (sampled (stride (length col)) col) =
+      rw add-one (drop-cons (sampled (stride (length col)) col) n (pos 0) (omega (arith, sampled-length)) ∙ ap (λ (x : ℤ). x ∷ drop (suc n) (sampled (stride (length col)) col)) (sampled-at n c ∙ ap (λ (m : ℕ). getD col m (pos 0)) (sym e))) in
+      ap (without-faults k) d ∙ without-cons k (getD col at (pos 0)) (drop (n + 1) (sampled (stride (length col)) col))
+
+  -- one row more is done: its value is written, unless it is a fault
+  pub sampling-next : (out : List ℤ) (n i at : ℕ) → Sampling out n i at → at < length col → 2048 ≤ length out → (out′ : List ℤ) → out′ ≡ sets out i (without-faults k (getD col at (pos 0) ∷ [])) → (i′ : ℕ) → i′ ≡ i + length (without-faults k (getD col at (pos 0) ∷ [])) → Sampling out′ (n + 1) i′ (at + stride (length col))
+  sampling-next out n i at s h l out′ p i′ q =
+      let one : List ℤ = without-faults k (getD col at (pos 0) ∷ []) in
+      let m : i < 2048 = sampling-room out n i at s h in
+      let w : length one ≤ 1 = without-le k (getD col at (pos 0) ∷ []) in
+      let fits : i + length one ≤ length out = omega arith in
+      let front : take i′ out′ ≡ take i out ++ one =
+      ap (λ (j : ℕ). take j out′) q
+      ∙ ap (take (i + length one)) (p ∙ sets-eq one out i fits)
+      ∙ take-at (take i out ++ one) (drop (i + length one) out) (i + length one) (length-append (take i out) one ∙ ap (λ (j : ℕ). j + length one) (length-take-le i out (omega arith))) in
+      record {
+        reached = omega (arith, s .reached, ap (λ (j : ℕ). j * stride (length col)) (add-one n), suc-mul n (stride (length col)));
+        few = omega (arith, s .few);
+        room = omega (arith, ap length p, length-sets out i one);
+        adds =
+            ap (λ (t : List ℤ). t ++ still (n + 1)) front
+            ∙ append-assoc (take i out) one (still (n + 1))
+            ∙ ap (λ (t : List ℤ). take i out ++ t) (sym (still-next n at (s .reached) h))
+            ∙ s .adds;
+      }
+
+  -- the rows are all done
+  pub sampling-ends : (out : List ℤ) (n i at : ℕ) → Sampling out n i at → length col ≤ at → (i ≡ length (sample k col)) × (take i out ≡ sample k col)
+  sampling-ends out n i at s h =
+      let c : ceil (length col) (stride (length col)) ≤ n = ceil-le (length col) (stride (length col)) n (stride-pos (length col)) (omega (arith, s .reached)) in
+      let d : still n ≡ [] = ap (without-faults k) (drop-of-length-le (sampled (stride (length col)) col) {i = n} (omega (arith, sampled-length))) in
+      let e : take i out ≡ sample k col = sym (append-nil (take i out)) ∙ ap (λ (t : List ℤ). take i out ++ t) (sym d) ∙ s .adds in
+      (sym (length-take-le i out (s .room)) ∙ ap length e, e)
 
 -- ---- the spread
 

@@ -4,7 +4,7 @@ use Prim.Native.Nat.{ℕ, zero, suc, _+_, _-_, _*_, _%_, _^_, _≤_, _<_}
 use native.Mathlib.Nat.{le-of-suc-le-suc, one-mul, add-zero}
 use native.Mathlib.Numerals.{add-one}
 use native.Mathlib.Omega.{arith}
-use mathlib.Core.Bool.{Bool, true, false, cond, _||_, _&&_, false≢true, true≢false, or-false, or-assoc}
+use mathlib.Core.Bool.{Bool, true, false, cond, _||_, _&&_, false≢true, true≢false, or-false, or-assoc, and-false}
 use mathlib.Core.List.{List, [], _∷_, _++_, map}
 use lib.Dec.{eqb, leb, lit<}
 use lib.Bits.{bitOr, or-shifted-r}
@@ -21,9 +21,9 @@ use Rattle.words.specs.Lists.{has}
 use Rattle.words.specs.Bits.{word}
 use Rattle.words.proofs.BitLaws.{word-lt}
 use Rattle.words.proofs.BitOps.{word-ext, word-add, word-none, word-more}
-use Rattle.bins.specs.Bins.{Kind, bin, bins, imprint, rising}
+use Rattle.bins.specs.Bins.{Kind, not-above, bin, bins, imprint, rising}
 use Rattle.bins.specs.Masks.{first-of, last-of, asked, inside, inner}
-use Rattle.bins.proofs.BinLaws.{bin-le, bin-yes, bin-not}
+use Rattle.bins.proofs.BinLaws.{bin-le, above-yes, above-not}
 
 -- a test of two signed values, as the machine reads them back from their bits
 pub plain-le : (w : Width) (a b : ℤ) → SFits w a → SFits w b → leZ (toZ w (ofZ w a)) (toZ w (ofZ w b)) ≡ leZ a b
@@ -70,6 +70,11 @@ pred-mag H (pos (suc a)) h p q e = omega arith
 pred-mag H (negsuc a) (pos h) p q e = absurd (true≢false e)
 pred-mag H (negsuc a) (negsuc h) p q e = omega (arith, leb-false h a e)
 
+-- nothing that fits a width lies below its least value
+pub fits-least : (H : ℕ) (a : ℤ) → mag a < H → leZ (negsuc (H - 1)) a ≡ true
+fits-least H (pos a) h = refl
+fits-least H (negsuc a) h = le-leb a (H - 1) (omega arith)
+
 -- ---- a word that is built bit by bit, upwards
 
 pub word-turn : (p : ℕ → Bool) (b : ℕ) → p b ≡ true → word (b + 1) p ≡ bitOr (word b p) (2 ^ b)
@@ -89,18 +94,18 @@ mask-none l h n g = word-none n (λ (b : ℕ). leb l b && leb b h) (λ b q. past
     past b true e = lt-leb b h (omega (arith, leb-true l b e))
     past b false e = refl
 
-module _ (k : Kind) where
-  -- one turn of the count: the border at i is tested as the machine reads it
-  pub bin-turn : (w : Width) (bs : List ℤ) (v : ℤ) (i : ℕ) (t : Bool) → i < length bs → mag (getD bs i (pos 0)) < 2 ^ hbits w
-      → leZ (toZ w (ofZ w (getD bs i (pos 0)))) v ≡ t → bin k (drop i bs) v ≡ cond t 1 0 + bin k (drop (i + 1) bs) v
-  bin-turn w bs v i t h f e =
-      let r : toZ w (ofZ w (getD bs i (pos 0))) ≡ getD bs i (pos 0) = toZ-ofZ w (getD bs i (pos 0)) (record { sfits = f }) in
-      go t (rw r at e)
-    where
-      go : (t : Bool) → leZ (getD bs i (pos 0)) v ≡ t → bin k (drop i bs) v ≡ cond t 1 0 + bin k (drop (i + 1) bs) v
-      go true e = omega (arith, bin-yes k bs v (pos 0) i h e)
-      go false e = omega (arith, bin-not k bs v (pos 0) i h e)
+-- one turn of the count: the border at i is tested as the machine reads it
+pub above-turn : (w : Width) (bs : List ℤ) (v : ℤ) (i : ℕ) (t : Bool) → i < length bs → mag (getD bs i (pos 0)) < 2 ^ hbits w
+    → leZ (toZ w (ofZ w (getD bs i (pos 0)))) v ≡ t → not-above (drop i bs) v ≡ cond t 1 0 + not-above (drop (i + 1) bs) v
+above-turn w bs v i t h f e =
+    let r : toZ w (ofZ w (getD bs i (pos 0))) ≡ getD bs i (pos 0) = toZ-ofZ w (getD bs i (pos 0)) (record { sfits = f }) in
+    go t (rw r at e)
+  where
+    go : (t : Bool) → leZ (getD bs i (pos 0)) v ≡ t → not-above (drop i bs) v ≡ cond t 1 0 + not-above (drop (i + 1) bs) v
+    go true e = omega (arith, above-yes bs v (pos 0) i h e)
+    go false e = omega (arith, above-not bs v (pos 0) i h e)
 
+module _ (k : Kind) where
   -- ---- imprints
 
   has-more : (f : ℤ → ℕ) (rows : List ℤ) (v : ℤ) (b : ℕ) → has b (map f (rows ++ (v ∷ []))) ≡ (has b (map f rows) || eqb (f v) b)
@@ -139,15 +144,15 @@ module _ (k : Kind) where
   last-past (x ∷ bs) (suc b) h = last-past bs b (le-of-suc-le-suc h)
 
   module _ (bs : List ℤ) (low high : ℤ) where
-    pub inside-in : (b : ℕ) → bin k bs low ≤ b → b ≤ bin k bs high → inside k bs low high b ≡ (leZ low (first-of k bs b) && leZ (last-of k bs b) high)
+    pub inside-in : (b : ℕ) → bin k bs low ≤ b → b ≤ bin k bs high → inside k bs low high b ≡ (leb 1 b && (leZ low (first-of k bs b) && leZ (last-of k bs b) high))
     unfolding inside asked
     inside-in b h l = rw (le-leb (bin k bs low) b h, le-leb b (bin k bs high) l)
 
     pub inner-none : (n : ℕ) → n ≤ bin k bs low → word n (inside k bs low high) ≡ 0
     unfolding inside asked
-    inner-none n h = word-none n (inside k bs low high) (λ b l. rw (lt-leb (bin k bs low) b (omega arith)))
+    inner-none n h = word-none n (inside k bs low high) (λ b l. rw (lt-leb (bin k bs low) b (omega arith)) (and-false (leb 1 b)))
 
     pub inner-done : (n : ℕ) → bin k bs low ≤ n → bin k bs high < n → n ≤ bins bs → inner k bs low high ≡ word n (inside k bs low high)
     unfolding inside asked inner
     inner-done n l h g =
-        word-more n (bins bs) (inside k bs low high) g (λ b x y. rw (le-leb (bin k bs low) b (omega arith), lt-leb b (bin k bs high) (omega arith)))
+        word-more n (bins bs) (inside k bs low high) g (λ b x y. rw (le-leb (bin k bs low) b (omega arith), lt-leb b (bin k bs high) (omega arith)) (and-false (leb 1 b)))

@@ -1,4 +1,4 @@
--- Document 01, "Bins and line imprints". Assumes nothing.
+-- Document 01, "Bins and line imprints", as request 102 mends it: a fault is no reading. Assumes nothing.
 use Prim.Native.Nat.{ℕ, suc, _-_, _*_, _/_, _^_}
 use mathlib.Core.Path.{_≡_}
 use mathlib.Core.List.{List, [], _∷_, _++_, map, List·Memᴰ}
@@ -15,6 +15,10 @@ pub record Kind : Type 0 where
   pub per : ℕ
   pub least : ℤ
   pub greatest : ℤ
+
+-- A fault: the least value of the kind, which a dead probe sends. No value of the kind lies below it.
+abbrev pub fault : Kind → ℤ → Bool
+fault k v = leZ v (k .least)
 
 -- readings: 32 bits, 16 rows to a line
 abbrev pub readings : Kind
@@ -46,8 +50,13 @@ stride rows = cond (leb rows 2048) 1 (ceil rows 2048)
 unfoldable pub sampled : ℕ → List ℤ → List ℤ
 sampled s col = map (λ (i : ℕ). getD col (i * s) (pos 0)) (from 0 (ceil (length col) s))
 
+-- and those of them that are no fault: the stride counts every row, the sample has the readings alone
+abbrev pub without-faults : Kind → List ℤ → List ℤ
+without-faults k [] = []
+without-faults k (v ∷ vs) = let r = without-faults k vs in cond (fault k v) r (v ∷ r)
+
 unfoldable pub sample : Kind → List ℤ → List ℤ
-sample k col = sampled (stride (length col)) col
+sample k col = without-faults k (sampled (stride (length col)) col)
 
 -- ---- sorted, by putting each value into its place
 
@@ -103,10 +112,14 @@ good-borders bs = leb (length bs) 63 && rising bs
 
 -- ---- bins and imprints
 
--- the bin of v: the number of borders not above v
+-- the number of borders not above v
+unfoldable pub not-above : List ℤ → ℤ → ℕ
+not-above [] v = 0
+not-above (b ∷ bs) v = let r = not-above bs v in cond (leZ b v) (suc r) r
+
+-- the bin of v: that number; a fault lies in bin 0 whatever the borders
 unfoldable pub bin : Kind → List ℤ → ℤ → ℕ
-bin k [] v = 0
-bin k (b ∷ bs) v = let r = bin k bs v in cond (leZ b v) (suc r) r
+bin k bs v = cond (fault k v) 0 (not-above bs v)
 
 -- one more bins than borders
 abbrev pub bins : List ℤ → ℕ

@@ -8,14 +8,14 @@ use lib.Dec.{leb, ltb, lit<, lit≤}
 use lib.ListN.{length, drop, length-append}
 use lib.Pow.{pow-mono}
 use lib.Seq.{drop-append-seam}
-use lib.IntN.{ℤ}
+use lib.IntN.{ℤ, sucℤ}
 use lib.Signed.{ltZ}
 use borrow.Author.Tests.{ltb-true, ltb-false, lt-ltb, le-ltb}
 use Rattle.words.specs.Lists.{joined, every, after}
 use Rattle.words.specs.Numbers.{numbered}
 use Rattle.words.proofs.BitOps.{share-and, outside-and}
 use Rattle.bins.specs.Bins.{Kind, most-rows, most-lines, bins, good-borders}
-use Rattle.bins.specs.Masks.{fate}
+use Rattle.bins.specs.Masks.{fate, mask, inner}
 use Rattle.bins.specs.declared.Fate.{Fate}
 use Rattle.bins.specs.declared.Fate.the-variants.{Skipped, Whole, Compared}
 use Rattle.dictionary.specs.Dictionary.{Entry, plain, repeat, entries, entry-word, kept, pack, unpack, largest, fit, accepted}
@@ -23,13 +23,14 @@ use Rattle.dictionary.proofs.IndexLaws.{pack-unpack, accepted-lines}
 use Rattle.dictionary.proofs.PositionLaws.{Sized, entries-sized}
 use Rattle.column_index.specs.Index.{line-count, is-index-for}
 use Rattle.run_search.specs.Search.{Answer, with-line, search-by}
-use Rattle.run_search.specs.loops.Runs.{Asked, asking, values, through, Readable}
+use Rattle.run_search.specs.loops.Runs.{Asked, asking, held, values, through, Readable}
 use Rattle.column_index.specs.Promise.{checked-answer, search-answer, search-room, search-number, Searches}
 use Rattle.column_index.specs.declared.IndexCheck.{IndexCheck}
 use Rattle.column_index.specs.declared.IndexCheck.the-variants as checking
 use Rattle.column_index.specs.declared.SearchAnswer.{SearchAnswer}
 use Rattle.column_index.specs.declared.SearchAnswer.the-variants as searching
-use Rattle.run_search.proofs.RunLaws.{search-through}
+use Rattle.run_search.proofs.RunLaws.{search-through, through-same}
+use Rattle.bins.proofs.MaskLaws.{before, before-match}
 use Rattle.bins.proofs.SampleLaws.{ceil-mono}
 use Rattle.column_index.proofs.AnswerLaws.{good-few}
 
@@ -64,7 +65,7 @@ fate-wide n m i w l h =
     ap₂ (λ (a b : Bool). cond a (cond b Compared Whole) Skipped) (share-and n w m h ∙ sym (share-and 64 w m h′)) (outside-and n w i h ∙ sym (outside-and 64 w i h′))
 
 -- the same range, among all 64 bits
-abbrev pub widened : Asked → Asked
+abbrev widened : Asked → Asked
 widened q = record { low = q .low; high = q .high; bin-count = 64; masked = q .masked; inner-masked = q .inner-masked }
 
 pub through-wide : (k : Kind) (q : Asked) (col : List ℤ) (ws : List ℕ) (c : ℕ) → q .bin-count ≤ 64 → every (fit (q .bin-count)) ws ≡ true → through k q col c ws ≡ through k (widened q) col c ws
@@ -153,11 +154,11 @@ module _ (k : Kind) (col bs : List ℤ) (is ds : List ℕ) (low high : ℤ) (row
   pub answered-order : checked-answer k col bs is ds ≡ checking.Fine → ltZ high low ≡ true → searching.LowAboveHigh ≡ search-answer k col bs is ds low high (length rows)
   answered-order e h = answered checking.Fine e searching.LowAboveHigh (sym (ap (λ (b : Bool). cond b searching.LowAboveHigh (search-room (search-by k bs ds is col low high) (length rows))) h))
 
-  -- found, as the program goes
-  pub answered-found : 0 < k .per → checked-answer k col bs is ds ≡ checking.Fine → ltZ high low ≡ false → (q : Asked) → q ≡ widened (asking k bs low high) → (r : SearchAnswer) (rows′ : List ℕ) → r ≡ search-room (through k q col 0 (unpack ds is)) (length rows) → rows′ ≡ after (numbered (search-number r)) (through k q col 0 (unpack ds is) .ids) rows → Searches k col bs is ds low high rows r rows′
+  -- found, as the program goes: it holds the value before the low end
+  pub answered-found : 0 < k .per → checked-answer k col bs is ds ≡ checking.Fine → ltZ high low ≡ false → (q : Asked) → q ≡ held (sucℤ (before k low)) high (mask k bs low high) (inner k bs low high) → (r : SearchAnswer) (rows′ : List ℕ) → r ≡ search-room (through k q col 0 (unpack ds is)) (length rows) → rows′ ≡ after (numbered (search-number r)) (through k q col 0 (unpack ds is) .ids) rows → Searches k col bs is ds low high rows r rows′
   answered-found per e h q s r rows′ p w =
       let ok = checked-passed k col bs is ds e in
-      let t : through k q col 0 (unpack ds is) ≡ search-by k bs ds is col low high = ap (λ (x : Asked). through k x col 0 (unpack ds is)) s ∙ sym (search-by-through k per bs ds is col low high (good-few bs (ok .good)) (ok .index)) in
+      let t : through k q col 0 (unpack ds is) ≡ search-by k bs ds is col low high = ap (λ (x : Asked). through k x col 0 (unpack ds is)) s ∙ through-same k (sucℤ (before k low)) low high (before-match k low high) 64 (mask k bs low high) (inner k bs low high) col (unpack ds is) 0 ∙ sym (search-by-through k per bs ds is col low high (good-few bs (ok .good)) (ok .index)) in
       record {
         answers = answered checking.Fine e r (p ∙ ap (λ (a : Answer). search-room a (length rows)) t ∙ sym (ap (λ (b : Bool). cond b searching.LowAboveHigh (search-room (search-by k bs ds is col low high) (length rows))) h));
         rows-after = w ∙ ap (λ (a : Answer). after (numbered (search-number r)) (a .ids) rows) t;

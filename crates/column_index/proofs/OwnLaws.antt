@@ -1,14 +1,16 @@
 -- A column's own index: build leaves it, it is accepted, and with it a search lists what a plain scan lists. Assumes nothing.
 use Prim.Native.Nat.{ℕ, _<_, _≤_}
-use mathlib.Core.Path.{_≡_, _∙_, ap, ap₂}
+use mathlib.Core.Path.{_≡_, _∙_, sym, ap, ap₂}
 use mathlib.Core.List.{List}
-use mathlib.Core.Bool.{true, false, and-eq-true-iff}
+use mathlib.Core.Bool.{Bool, true, false, cond, and-eq-true-iff}
+use native.Mathlib.Omega.{arith}
 use lib.Dec.{leb, ltb, lit<, lit≤}
-use lib.ListN.{length, take}
+use lib.ListN.{length, take, getD}
 use lib.IntN.{ℤ}
 use lib.Signed.{ltZ}
 use borrow.Author.Tests.{le-ltb, le-leb}
 use Rattle.words.specs.Lists.{filled}
+use Rattle.words.specs.Numbers.{numbered}
 use Rattle.words.proofs.ListLaws.{take-filled}
 use Rattle.bins.specs.Bins.{Kind, InKind, most-rows, imprints, borders, rising, good-borders}
 use Rattle.bins.proofs.BorderLaws.{borders-rising, borders-count}
@@ -16,13 +18,18 @@ use Rattle.dictionary.specs.Dictionary.{largest, unpack}
 use Rattle.dictionary.proofs.IndexLaws.{unpack-pack}
 use Rattle.column_index.specs.Index.{is-index-for, Own}
 use Rattle.column_index.specs.Exact.{Lists-the-scan}
-use Rattle.column_index.specs.Promise.{Builds, Searches, search-answer}
+use Rattle.column_index.specs.Promise.{Builds, Searches, checked-answer, search-answer, search-number, search-beside}
 use Rattle.column_index.specs.declared.BuildAnswer.the-variants as build
+use Rattle.column_index.specs.declared.IndexCheck.{IndexCheck}
+use Rattle.column_index.specs.declared.IndexCheck.the-variants as checking
 use Rattle.column_index.specs.declared.SearchAnswer.{SearchAnswer}
 use Rattle.column_index.specs.declared.SearchAnswer.the-variants as searching
 use Rattle.run_search.specs.Search.{Answer, scan, search-by}
+use Rattle.run_search.specs.Listed.{No-faults}
 use Rattle.run_search.proofs.RowsLaws.{search-rises}
+use Rattle.run_search.proofs.FaultLaws.{scan-no-faults}
 use Rattle.column_index.proofs.BuiltLaws.{packed-accepted, packed-scan}
+use Rattle.column_index.proofs.CallLaws.{by-check, search-checked}
 use Rattle.column_index.proofs.MadeLaws.{builds-all}
 
 module _ {k : Kind} {col bs : List ℤ} {is ds : List ℕ} where
@@ -96,3 +103,33 @@ pub searches-built : {k : Kind} {col bs : List ℤ} {is ds : List ℕ} {b i d : 
     → length (scan k low high 0 col) ≤ length rows
     → Lists-the-scan k col low high r rows′
 searches-built p s per kind order room = searches-own (builds-own p) (builds-all p .few) s per kind order room
+
+-- ---- faults (request 102)
+
+-- a search that is done has the rows of its definition at the front of the row space
+done-listed : {k : Kind} {col bs : List ℤ} {is ds : List ℕ} {low high : ℤ} {rows rows′ : List ℕ} {n s w c : ℕ} → Searches k col bs is ds low high rows (searching.Done n s w c) rows′ → take n rows′ ≡ search-by k bs ds is col low high .ids
+done-listed {k} {col} {bs} {is} {ds} {low} {high} {rows} {rows′} {n} {s} {w} {c} p =
+    ap₂ take (past (checked-answer k col bs is ds) (ltZ high low) (ltb (length rows) (length ids)) (p .answers ∙ search-checked k col bs is ds low high (length rows))) (p .rows-after)
+    ∙ take-filled ids rows
+  where
+    ids : List ℕ
+    ids = search-by k bs ds is col low high .ids
+
+    never : (r : SearchAnswer) → (numbered (search-number r) ≡ 0 → ⊥) → searching.Done n s w c ≡ r → n ≡ length ids
+    never r ne e = absurd (ne (sym (ap (λ (x : SearchAnswer). numbered (search-number x)) e)))
+
+    past : (x : IndexCheck) (above short : Bool) → searching.Done n s w c ≡ by-check x (cond above searching.LowAboveHigh (cond short (searching.Short (length ids)) (searching.Done (length ids) (search-by k bs ds is col low high .skips) (search-by k bs ds is col low high .wholes) (search-by k bs ds is col low high .compares)))) → n ≡ length ids
+    past checking.Fine false false e = ap (λ (x : SearchAnswer). getD (search-beside x) 1 0) e
+    past checking.Fine false true e = never (searching.Short (length ids)) (λ q. omega arith) e
+    past checking.Fine true short e = never searching.LowAboveHigh (λ q. omega arith) e
+    past checking.TooLong above short e = never searching.TooLong (λ q. omega arith) e
+    past checking.BadBorders above short e = never searching.BadBorders (λ q. omega arith) e
+    past checking.NoIndex above short e = never searching.NoIndex (λ q. omega arith) e
+
+module _ {k : Kind} {col bs : List ℤ} {is ds : List ℕ} (per : 0 < k .per) (kind : InKind k col) (o : Own k col bs is ds) where
+  -- WITH ITS OWN INDEX THE SEARCH LISTS NO FAULT, whatever the range and the borders
+  pub own-no-faults : (low high : ℤ) → No-faults k col (search-by k bs ds is col low high .ids)
+  own-no-faults low high = rw (own-scan per kind o low high) (scan-no-faults k low high col)
+
+  pub searches-no-faults : {low high : ℤ} {rows rows′ : List ℕ} {n s w c : ℕ} → Searches k col bs is ds low high rows (searching.Done n s w c) rows′ → No-faults k col (take n rows′)
+  searches-no-faults {low} {high} p = rw (done-listed p) (own-no-faults low high)

@@ -60,7 +60,7 @@ module _ (col bs : List ℤ) (is ds : List ℕ) (own : (lo hi : ℕ) → search-
 
     -- no key lies in the range
     free : some-in lo hi K ≡ false
-    free = scan-none readings lo hi (m .levels) 0 col (sym (own lo hi) ∙ l .none)
+    free = scan-none readings refl lo hi (m .levels) 0 col (sym (own lo hi) ∙ l .none)
 
     around : Gap (2 ^ m .levels - 1) K lo hi a b
     around = let k = l .key in gap (2 ^ m .levels - 1) lo hi (l .order) (omega arith) K (some-in-false lo hi K free)

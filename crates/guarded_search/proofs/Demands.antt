@@ -1,5 +1,5 @@
 -- The maintainer's three demands, as theorems of the calls' promises. Assumes nothing.
-use mathlib.Core.Path.{_≡_}
+use mathlib.Core.Path.{_≡_, refl}
 use mathlib.Core.Bool.{false}
 use mathlib.Core.List.{List}
 use Prim.Native.Nat.{ℕ, _*_, _^_, _≤_}
@@ -10,8 +10,9 @@ use lib.ListN.{length, take}
 use lib.Signed.{ltZ}
 use Rattle.words.specs.Numbers.{numbered, no-filter}
 use Rattle.words.specs.Lists.{different}
-use Rattle.bins.specs.Bins.{readings, InKind, most-rows}
+use Rattle.bins.specs.Bins.{readings, InKind, most-rows, without-faults}
 use Rattle.run_search.specs.Search.{scan}
+use Rattle.run_search.specs.Listed.{No-faults}
 use Rattle.column_index.specs.Index.{Own}
 use Rattle.column_index.specs.Exact.{Lists-the-scan}
 use Rattle.column_index.specs.Promise.{build-number, Builds, append-number, Appends, pack-number, Packs, unpack-number, Unpacks, search-number, Searches}
@@ -22,7 +23,8 @@ use Rattle.column_index.specs.declared.AppendAnswer.the-variants as appending
 use Rattle.column_index.specs.declared.PackAnswer.{PackAnswer}
 use Rattle.column_index.specs.declared.UnpackAnswer.{UnpackAnswer}
 use Rattle.column_index.specs.declared.SearchAnswer.{SearchAnswer}
-use Rattle.column_index.proofs.OwnLaws.{own-scan, builds-own, searches-own, searches-built}
+use Rattle.column_index.specs.declared.SearchAnswer.the-variants as searching
+use Rattle.column_index.proofs.OwnLaws.{own-scan, builds-own, searches-own, searches-built, searches-no-faults}
 use Rattle.column_index.proofs.AppendLaws.{appends-all, appends-own}
 use Rattle.column_index.proofs.PromiseLaws.{builds-keeps, appends-keeps, packs-keeps, unpacks-keeps, searches-keeps}
 use Rattle.range_filter.specs.Calls.{freshMemory}
@@ -43,12 +45,15 @@ use Rattle.guarded_search.specs.Guarded.{keys}
 use Rattle.guarded_search.specs.Promise.{guard-number, Guards}
 use Rattle.guarded_search.specs.Searching.{Turn, Searching, Few-wasted, All-exact}
 use Rattle.guarded_search.specs.History.{Left-with-both, History}
+use Rattle.guarded_search.specs.declared.Outcome.{Outcome}
 use Rattle.guarded_search.specs.declared.Outcome.the-variants.{Denied}
 use Rattle.guarded_search.specs.declared.GuardAnswer.{GuardAnswer}
 use Rattle.guarded_search.specs.declared.GuardAnswer.the-variants as guard
 use Rattle.guarded_search.proofs.Bounds.{fresh-calm, at-first}
 use Rattle.guarded_search.proofs.Bounded.{State, bounded}
 use Rattle.guarded_search.proofs.Exact.{exact}
+use Rattle.guarded_search.proofs.GuardLaws.{keys-faultless}
+use Rattle.guarded_search.proofs.NoFaults.{guards-no-faults}
 use Rattle.guarded_search.proofs.Never.{left-filter, search-not-8}
 use Rattle.guarded_search.proofs.Only.{guards-refused}
 use Rattle.guarded_search.proofs.Sound.{denied-empty, search-denied-empty}
@@ -167,6 +172,24 @@ pub demand-2-exact-built :
     All-exact col ts
 demand-2-exact-built ts kind p q z s = demand-2-exact ts kind (builds-own p) q z s
 
+-- a dead probe isn't a reading: no search by the column's own index lists a fault, whatever the range and the borders it carries
+pub demand-2-no-faults :
+    {col bs : List ℤ} {is ds rows rows′ : List ℕ} {low high : ℤ} {n s e c : ℕ} →
+    InKind readings col →
+    Own readings col bs is ds →
+    Searches readings col bs is ds low high rows (searching.Done n s e c) rows′ →
+    No-faults readings col (take n rows′)
+demand-2-no-faults kind o q = searches-no-faults (lit< tt) kind o q
+
+-- nor does a search with both, whatever the filter words
+pub demand-2-no-faults-guarded :
+    {col bs : List ℤ} {is ds w w′ rows rows′ : List ℕ} {lo hi n s e c : ℕ} {out : Outcome} →
+    InKind readings col →
+    Own readings col bs is ds →
+    Guards w col bs is ds lo hi rows (guard.Done out n s e c) w′ rows′ →
+    No-faults readings col (take n rows′)
+demand-2-no-faults-guarded kind o q = guards-no-faults kind o q
+
 -- in every history, searches with both among its calls, a range that ask denies holds no sample present
 pub demand-2-denied : {w samples : List ℕ} (lo hi : ℕ) → History w samples → Ask w lo hi asked.Denied → NoneIn lo hi samples
 demand-2-denied lo hi h p = denied-empty lo hi h p
@@ -209,3 +232,7 @@ pub demand-3-built :
     Searching col (take b bs′) (take i is′) (take d ds′) w′ ts →
     Few-wasted (keys k col) (different (2 ^ k) (keys k col)) ts
 demand-3-built ts kind p q z enough s = demand-3 ts kind (builds-own p) q z enough s
+
+-- faults aren't keys: without its faults a column has the keys that it has
+pub demand-3-no-fault-keys : (k : ℕ) (col : List ℤ) → keys k (without-faults readings col) ≡ keys k col
+demand-3-no-fault-keys k col = keys-faultless readings refl k col

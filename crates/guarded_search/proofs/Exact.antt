@@ -20,7 +20,7 @@ use Rattle.range_filter.specs.Calls.{allIn}
 use Rattle.range_filter.specs.Promise.{outside}
 use Rattle.range_filter.proofs.PromiseLaws.{is-all-in}
 use Rattle.guarded_search.specs.Guarded.{keys, some-in, gap-low, gap-high, guarded}
-use Rattle.guarded_search.specs.Promise.{guard-number, guard-room, of-index, guard-answer}
+use Rattle.guarded_search.specs.Promise.{guard-number, guard-room, of-index, guard-answer, Guards}
 use Rattle.guarded_search.specs.Searching.{Turn, Searching, Lists, All-exact}
 use Rattle.guarded_search.specs.declared.Outcome.{Outcome}
 use Rattle.guarded_search.specs.declared.GuardAnswer.{GuardAnswer}
@@ -42,39 +42,43 @@ module _ (ids : List ℕ) (listed : List ℕ) (rows rows′ : List ℕ) where
   index-lists checking.BadBorders o s w c t e q = tt
   index-lists checking.NoIndex o s w c t e q = tt
 
+module _ (col bs : List ℤ) (is ds : List ℕ) where
+  -- the answer of words that mean m lists ids, if these are what the definition lists of a range of keys
+  answer-lists : (m : Memory) (lo hi : ℕ) (rows : List ℕ) (ids : List ℕ) → (hi < 2 ^ m .levels → guarded readings m bs ds is col lo hi .answer .ids ≡ ids) → (rows′ : List ℕ) → rows′ ≡ after (guard-number (guard-answer col bs is ds lo hi (length rows) m)) (guarded readings m bs ds is col lo hi .answer .ids) rows → Lists ids rows′ (guard-answer col bs is ds lo hi (length rows) m)
+  answer-lists m lo hi rows ids are rows′ q = go (outside m lo) (outside m hi) refl (ltb hi lo) q
+    where
+      go : (a b : Bool) → outside m hi ≡ b → (c : Bool) → let s = guarded readings m bs ds is col lo hi in let r = cond (a || b) guard.NoKey (cond c guard.LowAboveHigh (of-index (checked-answer readings col bs is ds) (guard-room (s .outcome) (s .answer) (length rows)))) in rows′ ≡ after (guard-number r) (s .answer .ids) rows → Lists ids rows′ r
+      go true b e c q = tt
+      go false true e c q = tt
+      go false false e true q = tt
+      go false false e false q =
+          let a : Answer = guarded readings m bs ds is col lo hi .answer in
+          index-lists ids (a .ids) rows rows′ (checked-answer readings col bs is ds) (guarded readings m bs ds is col lo hi .outcome) (a .skips) (a .wholes) (a .compares) (ltb (length rows) (length (a .ids))) (are (leb-false (2 ^ m .levels) hi e)) q
+
+  pub guards-list : {w w′ rows rows′ : List ℕ} {lo hi : ℕ} {r : GuardAnswer} → Guards w col bs is ds lo hi rows r w′ rows′ → (m : Memory) → Filter w m → (ids : List ℕ) → (hi < 2 ^ m .levels → guarded readings m bs ds is col lo hi .answer .ids ≡ ids) → Lists ids rows′ r
+  guards-list {rows = rows} {rows′} {lo} {hi} {r} p m f ids are =
+      let e = p .kept .told .meant m f in
+      subst (λ (a : GuardAnswer). Lists ids rows′ a) (sym e) (answer-lists m lo hi rows ids are rows′ (p .meant-rows m f ∙ ap (λ (a : GuardAnswer). after (guard-number a) (guarded readings m bs ds is col lo hi .answer .ids) rows) e))
+
 module _ (col bs : List ℤ) (is ds : List ℕ) (own : (lo hi : ℕ) → search-by readings bs ds is col (pos lo) (pos hi) .ids ≡ scan readings (pos lo) (pos hi) 0 col) where
-  module _ (w : List ℕ) (m : Memory) (c : Calm (m .levels) (keys (m .levels) col) (m .set)) (lo hi : ℕ) (rows : List ℕ) where
+  module _ (m : Memory) (c : Calm (m .levels) (keys (m .levels) col) (m .set)) (lo hi : ℕ) where
     -- D holds no key, so a range that is all in D holds none
     denied-none : allIn (m .set) lo hi ≡ true → some-in lo hi (keys (m .levels) col) ≡ false
     denied-none e = free-some-in lo hi (keys (m .levels) col) (λ x h a b. not-both (m .set x) (is-all-in (m .set) lo hi e x a b) (c .no-key x h))
 
-    ids-are : hi < 2 ^ m .levels → guarded readings m bs ds is col lo hi .answer .ids ≡ scan readings (pos lo) (pos hi) 0 col
-    ids-are k = go (allIn (m .set) lo hi) refl
+    ids-are : (space : ℕ) → hi < 2 ^ m .levels → guarded readings m bs ds is col lo hi .answer .ids ≡ scan readings (pos lo) (pos hi) 0 col
+    ids-are space k = go (allIn (m .set) lo hi) refl
       where
         go : (d : Bool) → allIn (m .set) lo hi ≡ d → guarded readings m bs ds is col lo hi .answer .ids ≡ scan readings (pos lo) (pos hi) 0 col
-        go true e = answer-ids col bs is ds lo hi (length rows) m true e ∙ sym (none-scan readings lo hi (m .levels) 0 col k (denied-none e))
-        go false e = answer-ids col bs is ds lo hi (length rows) m false e ∙ own lo hi
-
-    lists : (rows′ : List ℕ) → rows′ ≡ after (guard-number (guard-answer col bs is ds lo hi (length rows) m)) (guarded readings m bs ds is col lo hi .answer .ids) rows → Lists (scan readings (pos lo) (pos hi) 0 col) rows′ (guard-answer col bs is ds lo hi (length rows) m)
-    lists rows′ q = go (outside m lo) (outside m hi) refl (ltb hi lo) q
-      where
-        go : (a b : Bool) → outside m hi ≡ b → (c : Bool) → let s = guarded readings m bs ds is col lo hi in let r = cond (a || b) guard.NoKey (cond c guard.LowAboveHigh (of-index (checked-answer readings col bs is ds) (guard-room (s .outcome) (s .answer) (length rows)))) in rows′ ≡ after (guard-number r) (s .answer .ids) rows → Lists (scan readings (pos lo) (pos hi) 0 col) rows′ r
-        go true b e c q = tt
-        go false true e c q = tt
-        go false false e true q = tt
-        go false false e false q =
-            let a : Answer = guarded readings m bs ds is col lo hi .answer in
-            index-lists (scan readings (pos lo) (pos hi) 0 col) (a .ids) rows rows′ (checked-answer readings col bs is ds) (guarded readings m bs ds is col lo hi .outcome) (a .skips) (a .wholes) (a .compares) (ltb (length rows) (length (a .ids))) (ids-are (leb-false (2 ^ m .levels) hi e)) q
+        go true e = answer-ids col bs is ds lo hi space m true e ∙ sym (none-scan readings lo hi (m .levels) 0 col k (denied-none e))
+        go false e = answer-ids col bs is ds lo hi space m false e ∙ own lo hi
 
   pub exact : (ts : List Turn) (w : List ℕ) (m : Memory) → Filter w m → Calm (m .levels) (keys (m .levels) col) (m .set) → Searching col bs is ds w ts → All-exact col ts
   exact [] w m f c p = tt
   exact (t ∷ ts) w m f c p = (here, go (turned (p .0) m f) (exact ts (t .words)))
     where
       here : Lists (scan readings (pos (t .low)) (pos (t .high)) 0 col) (t .rows) (t .answer)
-      here =
-          let e = p .0 .kept .told .meant m f in
-          let q : t .rows ≡ after (guard-number (guard-answer col bs is ds (t .low) (t .high) (length (t .space)) m)) (guarded readings m bs ds is col (t .low) (t .high) .answer .ids) (t .space) = p .0 .meant-rows m f ∙ ap (λ (r : GuardAnswer). after (guard-number r) (guarded readings m bs ds is col (t .low) (t .high) .answer .ids) (t .space)) e in
-          subst (λ (r : GuardAnswer). Lists (scan readings (pos (t .low)) (pos (t .high)) 0 col) (t .rows) r) (sym e) (lists w m c (t .low) (t .high) (t .space) (t .rows) q)
+      here = guards-list col bs is ds (p .0) m f (scan readings (pos (t .low)) (pos (t .high)) 0 col) (ids-are m c (t .low) (t .high) (length (t .space)))
 
       stay : t .words ≡ w → Filter (t .words) m
       stay e = subst (λ (u : List ℕ). Filter u m) (sym e) f

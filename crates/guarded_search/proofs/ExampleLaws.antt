@@ -1,4 +1,4 @@
--- The examples of document 01 that are to be proved, and the cases of request 101, computed. Assumes nothing.
+-- The examples of document 01 that are to be proved, and the cases of requests 101 and 102, computed. Assumes nothing.
 use Prim.Native.Nat.{ℕ}
 use mathlib.Core.Path.{_≡_, refl}
 use mathlib.Core.List.{List}
@@ -6,7 +6,7 @@ use mathlib.Core.Bool.{true}
 use lib.IntN.{ℤ}
 use lib.ListN.{length}
 use Rattle.words.specs.Bits.{share, outside}
-use Rattle.bins.specs.Bins.{readings, sampled, sample, spread, borders-of, borders-sorted, borders, bin, imprint, imprints}
+use Rattle.bins.specs.Bins.{readings, sampled, sample, spread, borders-of, borders-sorted, borders, not-above, bin, imprint, imprints}
 use Rattle.bins.specs.Masks.{matches, asked, inside, mask, inner, fate}
 use Rattle.dictionary.specs.Dictionary.{entries, pack, accepted}
 use Rattle.dictionary.specs.Told.{told-index}
@@ -17,15 +17,21 @@ use Rattle.column_index.specs.declared.AppendAnswer.the-variants as appending
 use Rattle.halving_tree.specs.Tree.{treeOf}
 use Rattle.guarded_search.specs.Examples.{all-hold, P1-to-P12}
 use Rattle.guarded_search.specs.AppendExamples.{append-cases}
+use Rattle.guarded_search.specs.FaultExamples.{fault-cases}
 
 -- P1 TO P12 HOLD
 pub examples-hold : all-hold P1-to-P12 ≡ true
-unfolding share outside sampled sample spread borders-of borders-sorted borders bin imprint imprints matches asked inside mask inner fate entries pack fates search treeOf
+unfolding share outside sampled sample spread borders-of borders-sorted borders not-above bin imprint imprints matches asked inside mask inner fate entries pack fates search treeOf
 examples-hold = refl
+
+-- THE CASES WITH FAULTS HOLD
+pub fault-cases-hold : all-hold fault-cases ≡ true
+unfolding share outside sampled sample spread borders-of borders-sorted borders not-above bin imprint imprints matches asked inside mask inner fate entries pack fates search
+fault-cases-hold = refl
 
 -- THE CASES OF APPEND HOLD
 pub append-cases-hold : all-hold append-cases ≡ true
-unfolding bin imprint imprints entries pack accepted told-index extended append-answer
+unfolding not-above bin imprint imprints entries pack accepted told-index extended append-answer
 append-cases-hold = refl
 
 -- 16,777,217 ROWS GIVE 2, whatever else is wrong (too many to compute)

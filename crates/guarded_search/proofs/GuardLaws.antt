@@ -1,14 +1,16 @@
 -- What an answer of the search with both says of its range, and of what the filter remembers afterwards. Assumes nothing.
 use mathlib.Core.Path.{_≡_, refl, sym, ap, subst, _∙_}
-use mathlib.Core.Bool.{Bool, true, false, cond, _&&_, _||_, and-eq-true-iff}
+use mathlib.Core.Bool.{Bool, true, false, cond, not, _&&_, _||_, and-eq-true-iff, and-false, false≢true}
 use mathlib.Core.List.{List, [], _∷_}
 use Prim.Native.Nat.{ℕ, suc, _^_, _≤_, _<_}
 use native.Mathlib.Omega.{arith}
 use lib.Dec.{ltb, leb}
 use lib.IntN.{ℤ, pos, negsuc}
 use lib.ListN.{length}
-use borrow.Author.Tests.{ltb-false, leb-true, leb-false, le-ltb}
-use Rattle.bins.specs.Bins.{Kind, readings}
+use lib.Signed.{leZ}
+use borrow.Author.Tests.{ltb-false, leb-true, leb-false, le-leb, le-ltb}
+use Rattle.words.proofs.Order.{leZ-trans}
+use Rattle.bins.specs.Bins.{Kind, fault, readings, without-faults}
 use Rattle.bins.specs.Masks.{matches}
 use Rattle.run_search.specs.Search.{Answer, nothing, search-by, scan}
 use Rattle.column_index.specs.Promise.{checked-answer}
@@ -128,21 +130,29 @@ module _ (col bs : List ℤ) (is ds : List ℕ) (lo hi space : ℕ) (m : Memory)
 pub none-scan : (k : Kind) (lo hi levels r : ℕ) (col : List ℤ) → hi < 2 ^ levels → some-in lo hi (keys levels col) ≡ false → scan k (pos lo) (pos hi) r col ≡ []
 unfolding matches
 none-scan k lo hi levels r [] l e = refl
-none-scan k lo hi levels r (negsuc n ∷ vs) l e = none-scan k lo hi levels (suc r) vs l e
-none-scan k lo hi levels r (pos n ∷ vs) l e = go (leb lo n && leb n hi) refl (ltb n (2 ^ levels)) refl e (none-scan k lo hi levels (suc r) vs l)
+none-scan k lo hi levels r (negsuc n ∷ vs) l e = rw (and-false (not (fault k (negsuc n)))) (none-scan k lo hi levels (suc r) vs l e)
+none-scan k lo hi levels r (pos n ∷ vs) l e = go (not (fault k (pos n))) (leb lo n && leb n hi) refl (ltb n (2 ^ levels)) refl e (none-scan k lo hi levels (suc r) vs l)
   where
-    go : (t : Bool) → (leb lo n && leb n hi) ≡ t → (c : Bool) → ltb n (2 ^ levels) ≡ c → some-in lo hi (cond c (n ∷ keys levels vs) (keys levels vs)) ≡ false → (some-in lo hi (keys levels vs) ≡ false → scan k (pos lo) (pos hi) (suc r) vs ≡ []) → cond t (r ∷ scan k (pos lo) (pos hi) (suc r) vs) (scan k (pos lo) (pos hi) (suc r) vs) ≡ []
-    go true p true q e ih = absurd (not-both true refl (rw p at e))
-    go true p false q e ih = absurd (omega (arith, ltb-false n (2 ^ levels) q, leb-true n hi (and-eq-true-iff (leb lo n) (leb n hi) .0 p .1)))
-    go false p true q e ih = ih (rw p at e)
-    go false p false q e ih = ih e
+    go : (f t : Bool) → (leb lo n && leb n hi) ≡ t → (c : Bool) → ltb n (2 ^ levels) ≡ c → some-in lo hi (cond c (n ∷ keys levels vs) (keys levels vs)) ≡ false → (some-in lo hi (keys levels vs) ≡ false → scan k (pos lo) (pos hi) (suc r) vs ≡ []) → cond (f && t) (r ∷ scan k (pos lo) (pos hi) (suc r) vs) (scan k (pos lo) (pos hi) (suc r) vs) ≡ []
+    go f true p true q e ih = absurd (not-both true refl (rw p at e))
+    go f true p false q e ih = absurd (omega (arith, ltb-false n (2 ^ levels) q, leb-true n hi (and-eq-true-iff (leb lo n) (leb n hi) .0 p .1)))
+    go f false p true q e ih = rw (and-false f) (ih (rw p at e))
+    go f false p false q e ih = rw (and-false f) (ih e)
+
+-- A FAULT IS NO KEY, of a kind whose least value is below 0
+pub fault-no-key : (k : Kind) → leZ (pos 0) (k .least) ≡ false → (n : ℕ) → fault k (pos n) ≡ false
+fault-no-key k below n = go (fault k (pos n)) refl
+  where
+    go : (t : Bool) → fault k (pos n) ≡ t → fault k (pos n) ≡ false
+    go false e = e
+    go true e = absurd (false≢true (sym below ∙ leZ-trans (pos 0) (pos n) (k .least) (le-leb 0 n (omega arith)) e))
 
 -- and a plain scan that lists nothing leaves no key in the range
-pub scan-none : (k : Kind) (lo hi levels r : ℕ) (col : List ℤ) → scan k (pos lo) (pos hi) r col ≡ [] → some-in lo hi (keys levels col) ≡ false
+pub scan-none : (k : Kind) → leZ (pos 0) (k .least) ≡ false → (lo hi levels r : ℕ) (col : List ℤ) → scan k (pos lo) (pos hi) r col ≡ [] → some-in lo hi (keys levels col) ≡ false
 unfolding matches
-scan-none k lo hi levels r [] e = refl
-scan-none k lo hi levels r (negsuc n ∷ vs) e = scan-none k lo hi levels (suc r) vs e
-scan-none k lo hi levels r (pos n ∷ vs) e = go (leb lo n && leb n hi) refl (ltb n (2 ^ levels)) e (scan-none k lo hi levels (suc r) vs)
+scan-none k below lo hi levels r [] e = refl
+scan-none k below lo hi levels r (negsuc n ∷ vs) e = scan-none k below lo hi levels (suc r) vs (rw (and-false (not (fault k (negsuc n)))) at e)
+scan-none k below lo hi levels r (pos n ∷ vs) e = go (leb lo n && leb n hi) refl (ltb n (2 ^ levels)) (rw (fault-no-key k below n) at e) (scan-none k below lo hi levels (suc r) vs)
   where
     more : List ℕ
     more = keys levels vs
@@ -154,3 +164,13 @@ scan-none k lo hi levels r (pos n ∷ vs) e = go (leb lo n && leb n hi) refl (lt
     go true p c e ih = absurd (never r (scan k (pos lo) (pos hi) (suc r) vs) e)
     go false p true e ih = rw p (ih e)
     go false p false e ih = ih e
+
+-- IN DEMAND 3 FAULTS AREN'T KEYS: those of a column are the keys of what is left of it without its faults
+pub keys-faultless : (k : Kind) → leZ (pos 0) (k .least) ≡ false → (levels : ℕ) (col : List ℤ) → keys levels (without-faults k col) ≡ keys levels col
+keys-faultless k below levels [] = refl
+keys-faultless k below levels (pos n ∷ vs) = rw (fault-no-key k below n) (ap (λ (more : List ℕ). cond (ltb n (2 ^ levels)) (n ∷ more) more) (keys-faultless k below levels vs))
+keys-faultless k below levels (negsuc n ∷ vs) = go (fault k (negsuc n)) (keys-faultless k below levels vs)
+  where
+    go : (t : Bool) → keys levels (without-faults k vs) ≡ keys levels vs → keys levels (cond t (without-faults k vs) (negsuc n ∷ without-faults k vs)) ≡ keys levels vs
+    go true ih = ih
+    go false ih = ih

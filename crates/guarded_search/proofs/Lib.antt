@@ -10,4 +10,5 @@ pub mod Never
 pub mod Demands
 pub mod NarrowLaws
 pub mod Exact
+pub mod NoFaults
 pub mod CallLaws

@@ -21,14 +21,14 @@ column-A = replicate 32 (pos 5) ++ replicate 8 (pos 20)
 abbrev column-B : List ℤ
 column-B = map pos (from 0 100)
 
-abbrev sameZ : List ℤ → List ℤ → Bool
+abbrev pub sameZ : List ℤ → List ℤ → Bool
 sameZ [] [] = true
 sameZ [] (y ∷ ys) = false
 sameZ (x ∷ xs) [] = false
 sameZ (x ∷ xs) (y ∷ ys) = eqZ x y && sameZ xs ys
 
 -- rows, lines skipped, lines whole, values compared
-abbrev answers : Answer → List ℕ → ℕ → ℕ → ℕ → Bool
+abbrev pub answers : Answer → List ℕ → ℕ → ℕ → ℕ → Bool
 answers a ids s w c = same (a .ids) ids && eqb (a .skips) s && eqb (a .wholes) w && eqb (a .compares) c
 
 -- column A searched by its own index

@@ -5,4 +5,5 @@ pub mod Searching
 pub mod History
 pub mod Examples
 pub mod AppendExamples
+pub mod FaultExamples
 pub mod loops

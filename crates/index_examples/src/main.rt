@@ -1,4 +1,4 @@
-// Boundary cases of document 01, run through the built index part: lengths of a column, numbers of different values, the ends of the value range, every number that can arise but 2 for a column or a list to pack.
+// Boundary cases of document 01, run through the built index part: lengths of a column, numbers of different values, a fault and the greatest value, every number that can arise but 2 for a column or a list to pack.
 use column_index::BuildAnswer;
 use column_index::PackAnswer;
 use column_index::SearchAnswer;
@@ -169,9 +169,9 @@ fn lengths(rows: usize, different: usize) {
     column_of(front_i32(&space, rows));
 }
 
-// The smallest and the greatest value, in a full line and in a short one.
+// A fault, which is the smallest value, and the greatest value, in a full line and in a short one.
 fn ends() {
-    text(b"ends of the value range\n");
+    text(b"a fault and the greatest value\n");
     let mut column = [0i32; 18];
     column[0] = -2147483648;
     column[15] = 2147483647;

@@ -1,12 +1,26 @@
 // The borders of a column: its sample, sorted, and the different values of it or of 63 places spread over it.
+use crate::kind;
 use crate::order::sort;
 ghost use mathlib.Core.Path.{_≡_};
-ghost use mathlib.Core.List.{_∷_};
+ghost use mathlib.Core.List.{[], _∷_};
 ghost use mathlib.Core.Bool.{true, false};
 ghost use Prim.Native.Nat.{_+_, _<_, _≤_};
 ghost use lib.IntN.{pos};
 ghost use lib.ListN.{length, getD, take, drop};
-ghost use Rattle.bins.specs.Bins.{readings, most-rows, sample, once, spread, borders-sorted, borders};
+ghost use lib.Seq.{sets};
+ghost use Rattle.bins.specs.Bins.{readings, most-rows, without-faults, sample, once, spread, borders-sorted, borders};
+
+// Writes a sampled value at place i, unless it is a fault. Gives the next place.
+fn put_sampled(out: &mut [i32], i: usize, v: i32) -> usize
+    requires { ⌜ i < length (now out) ⌝ }
+    ensures { λ r. ⌜ (now (out .exit) ≡ sets (now (out .entry)) i (without-faults readings (v ∷ []))) × (r ≡ i + length (without-faults readings (v ∷ []))) ⌝ }
+{
+    if v <= kind::FAULT {
+        return i;
+    }
+    out[i] = v;
+    i + 1
+}
 
 // Writes the sample of a column, and returns how many values it has.
 pub fn fill_sample(column: &[i32], out: &mut [i32]) -> usize
@@ -18,8 +32,7 @@ pub fn fill_sample(column: &[i32], out: &mut [i32]) -> usize
     let mut i: usize = 0;
     let mut at: usize = 0;
     while at < column.len() {
-        out[i] = column[at];
-        i += 1;
+        i = put_sampled(out, i, column[at]);
         at += step;
     }
     i

@@ -2,20 +2,22 @@
 use bins::Line;
 ghost use mathlib.Core.Path.{_≡_};
 ghost use Prim.Native.Nat.{_*_, _≤_};
-ghost use mathlib.Core.Bool.{_&&_};
+ghost use mathlib.Core.Bool.{cond, _&&_};
+ghost use lib.Dec.{leb};
+ghost use lib.IntN.{sucℤ, predℤ};
 ghost use lib.Signed.{leZ};
 ghost use lib.ListN.{length, take, drop};
-ghost use Rattle.bins.specs.Bins.{readings, bin, bins, imprint, rising, good-borders};
+ghost use Rattle.bins.specs.Bins.{readings, fault, not-above, bin, bins, imprint, rising, good-borders};
 ghost use Rattle.bins.specs.Masks.{matches, mask, inner, first-of, last-of};
 
 pub mod borders;
 pub mod kind;
 pub mod order;
 
-// The bin of v: how many borders are not above v.
-pub fn bin_of(borders: &[i32], v: i32) -> u32
+// How many borders are not above v.
+fn not_above(borders: &[i32], v: i32) -> u32
     requires { ⌜ length (now borders) ≤ 63 ⌝ }
-    ensures { λ r. ⌜ r ≡ bin readings (now (borders .entry)) v ⌝ }
+    ensures { λ r. ⌜ r ≡ not-above (now (borders .entry)) v ⌝ }
 {
     let mut n: u32 = 0;
     let mut i: usize = 0;
@@ -26,6 +28,15 @@ pub fn bin_of(borders: &[i32], v: i32) -> u32
         i += 1;
     }
     n
+}
+
+// The bin of v. A border that was handed in may be the least value, so a fault is tested for; the borders are counted first, which leaves no branch.
+pub fn bin_of(borders: &[i32], v: i32) -> u32
+    requires { ⌜ length (now borders) ≤ 63 ⌝ }
+    ensures { λ r. ⌜ r ≡ bin readings (now (borders .entry)) v ⌝ }
+{
+    let n = not_above(borders, v);
+    if v <= kind::FAULT { 0 } else { n }
 }
 
 // One more bins than borders.
@@ -74,14 +85,6 @@ pub fn range_mask(borders: &[i32], low: i32, high: i32) -> u64
     bins::bits_between(bin_of(borders, low), bin_of(borders, high))
 }
 
-// Bin b's first value.
-fn first_value(borders: &[i32], b: usize) -> i32
-    requires { ⌜ b ≤ length (now borders) ⌝ }
-    ensures { λ r. ⌜ r ≡ first-of readings (now (borders .entry)) b ⌝ }
-{
-    if b == 0 { kind::LEAST } else { borders[b - 1] }
-}
-
 // Bin b's last value is at most high. A next border above high is not the least value, so that there is a value before it.
 fn ends_by(borders: &[i32], b: usize, high: i32) -> bool
     ensures { λ r. ⌜ r ≡ leZ (last-of readings (now (borders .entry)) b) high ⌝ }
@@ -94,19 +97,22 @@ fn ends_by(borders: &[i32], b: usize, high: i32) -> bool
     }
 }
 
-// Bin b's whole span lies in the range low to high.
+// Bin b is not the faults' bin 0, and its whole span lies in the range low to high.
 fn spans(borders: &[i32], b: usize, low: i32, high: i32) -> bool
     requires { ⌜ b ≤ length (now borders) ⌝ }
-    ensures { λ r. ⌜ r ≡ (leZ low (first-of readings (now (borders .entry)) b) && leZ (last-of readings (now (borders .entry)) b) high) ⌝ }
+    ensures { λ r. ⌜ r ≡ (leb 1 b && (leZ low (first-of readings (now (borders .entry)) b) && leZ (last-of readings (now (borders .entry)) b) high)) ⌝ }
 {
-    if low <= first_value(borders, b) {
+    if b == 0 {
+        return false;
+    }
+    if low <= borders[b - 1] {
         ends_by(borders, b, high)
     } else {
         false
     }
 }
 
-// The inner mask of the range low to high: the bins of its mask whose whole span lies in the range.
+// The inner mask of the range low to high: the bins of its mask whose whole span lies in the range, never bin 0.
 pub fn inner_mask(borders: &[i32], low: i32, high: i32) -> u64
     requires { ⌜ length (now borders) ≤ 63 ⌝ }
     ensures { λ r. ⌜ r ≡ inner readings (now (borders .entry)) low high ⌝ }
@@ -123,11 +129,21 @@ pub fn inner_mask(borders: &[i32], low: i32, high: i32) -> u64
     word
 }
 
-// v lies in the closed range low to high.
-pub fn in_range(low: i32, high: i32, v: i32) -> bool
-    ensures { λ r. ⌜ r ≡ matches readings low high v ⌝ }
+// The value before low, from which `in_range` counts. The least has none before it and stands for itself: it is a fault, and matches nothing.
+pub fn value_before(low: i32) -> i32
+    ensures { λ r. ⌜ r ≡ cond (fault readings low) (readings .least) (predℤ low) ⌝ }
 {
-    if low <= v { v <= high } else { false }
+    if low <= kind::FAULT {
+        return kind::FAULT;
+    }
+    low - 1
+}
+
+// v is no fault and lies in the closed range that begins after `above`. What is above another value is no fault: a row has no second test for it.
+pub fn in_range(above: i32, high: i32, v: i32) -> bool
+    ensures { λ r. ⌜ r ≡ matches readings (sucℤ above) high v ⌝ }
+{
+    if above < v { v <= high } else { false }
 }
 
 // The borders rise strictly.

@@ -63,7 +63,7 @@ fn find(
     }
 }
 
-// The rows of whole lines and the matching rows of compared lines, rising, at the front of the lent rows. With the column's own index these are the rows whose value lies in the closed range low to high.
+// The rows of whole lines and the matching rows of compared lines, rising, at the front of the lent rows. With the column's own index these are the rows whose value lies in the closed range low to high and is no fault.
 pub fn search(
     column: &[i32],
     borders: &[i32],
@@ -85,8 +85,9 @@ pub fn search(
             }
             let mask = reading_bins::range_mask(borders, low, high);
             let inner = reading_bins::inner_mask(borders, low, high);
+            let above = reading_bins::value_before(low);
             let ask = Ask {
-                low,
+                above,
                 high,
                 mask,
                 inner,

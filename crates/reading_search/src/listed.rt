@@ -17,14 +17,14 @@ ghost use Rattle.dictionary.specs.Dictionary.{count-of, unpack};
 ghost use Rattle.run_search.specs.Search.{scan};
 ghost use Rattle.dictionary.specs.loops.Entries.{lines-in, uses};
 ghost use Rattle.run_search.specs.loops.Runs.{through, run-at, Readable, row-words};
-ghost use Rattle.reading_search.specs.loops.Ask.{asked-of};
+ghost use Rattle.reading_search.specs.loops.Ask.{low-of, asked-of};
 
 // The row at place `at`, where its value lies in the range. Gives the next place.
 fn put_row(rows: &mut [u32], at: usize, row: Row, v: i32, ask: Ask) -> usize
-    requires { ⌜ (row .0 < row-words) × (matches readings (ask .low) (ask .high) v ≡ true → at < length (now rows)) × (at ≤ length (now rows)) ⌝ }
-    ensures { λ r. ⌜ (now (rows .exit) ≡ sets (now (rows .entry)) at (cond (matches readings (ask .low) (ask .high) v) (row .0 ∷ []) [])) × (r ≡ at + length (cond (matches readings (ask .low) (ask .high) v) (row .0 ∷ []) [])) ⌝ }
+    requires { ⌜ (row .0 < row-words) × (matches readings (low-of ask) (ask .high) v ≡ true → at < length (now rows)) × (at ≤ length (now rows)) ⌝ }
+    ensures { λ r. ⌜ (now (rows .exit) ≡ sets (now (rows .entry)) at (cond (matches readings (low-of ask) (ask .high) v) (row .0 ∷ []) [])) × (r ≡ at + length (cond (matches readings (low-of ask) (ask .high) v) (row .0 ∷ []) [])) ⌝ }
 {
-    if reading_bins::in_range(ask.low, ask.high, v) {
+    if reading_bins::in_range(ask.above, ask.high, v) {
         rows[at] = row.0 as u32;
         return at + 1;
     }
@@ -33,8 +33,8 @@ fn put_row(rows: &mut [u32], at: usize, row: Row, v: i32, ask: Ask) -> usize
 
 // The matching rows of values that begin at row `first`, written from place `at` on. Gives the next place.
 fn fill_matches(rows: &mut [u32], at: usize, part: &[i32], first: Row, ask: Ask) -> usize
-    requires { ⌜ (at + length (scan readings (ask .low) (ask .high) (first .0) (now part)) ≤ length (now rows)) × (first .0 + length (now part) ≤ row-words) ⌝ }
-    ensures { λ r. ⌜ (now (rows .exit) ≡ sets (now (rows .entry)) at (scan readings (ask .low) (ask .high) (first .0) (now (part .entry)))) × (r ≡ at + length (scan readings (ask .low) (ask .high) (first .0) (now (part .entry)))) ⌝ }
+    requires { ⌜ (at + length (scan readings (low-of ask) (ask .high) (first .0) (now part)) ≤ length (now rows)) × (first .0 + length (now part) ≤ row-words) ⌝ }
+    ensures { λ r. ⌜ (now (rows .exit) ≡ sets (now (rows .entry)) at (scan readings (low-of ask) (ask .high) (first .0) (now (part .entry)))) × (r ≡ at + length (scan readings (low-of ask) (ask .high) (first .0) (now (part .entry)))) ⌝ }
 {
     let a = first.0;
     let mut n = at;

@@ -13,11 +13,11 @@ ghost use Rattle.dictionary.specs.Dictionary.{count-of, unpack};
 ghost use Rattle.run_search.specs.Search.{scan};
 ghost use Rattle.dictionary.specs.loops.Entries.{lines-in, uses};
 ghost use Rattle.run_search.specs.loops.Runs.{values, through, run-at, tally, plus, Readable, Within, row-at};
-ghost use Rattle.reading_search.specs.loops.Ask.{asked-of};
+ghost use Rattle.reading_search.specs.loops.Ask.{low-of, asked-of};
 
-// A closed range, and the masks of the bins that it is searched by.
+// A closed range, by the value before it and its last, and the masks of the bins that it is searched by. Whatever is above another value is no fault, so that a row is not tested for it.
 pub struct Ask {
-    pub low: i32,
+    pub above: i32,
     pub high: i32,
     pub mask: u64,
     pub inner: u64,
@@ -25,10 +25,10 @@ pub struct Ask {
 
 // 1 where v lies in the range, else 0.
 fn one_if(ask: Ask, v: i32) -> u32
-    ensures { λ r. ⌜ r ≡ cond (matches readings (ask .low) (ask .high) v) 1 0 ⌝ }
+    ensures { λ r. ⌜ r ≡ cond (matches readings (low-of ask) (ask .high) v) 1 0 ⌝ }
     ensures { λ r. ⌜ r ≤ 1 ⌝ }
 {
-    if reading_bins::in_range(ask.low, ask.high, v) {
+    if reading_bins::in_range(ask.above, ask.high, v) {
         1
     } else {
         0
@@ -38,7 +38,7 @@ fn one_if(ask: Ask, v: i32) -> u32
 // How many of the values lie in the range. A counter of 32 bits is twice as fast as one of 64.
 fn count_matches(part: &[i32], ask: Ask) -> u32
     requires { ⌜ length (now part) ≤ most-rows ⌝ }
-    ensures { λ r. ⌜ r ≡ length (scan readings (ask .low) (ask .high) 0 (now (part .entry))) ⌝ }
+    ensures { λ r. ⌜ r ≡ length (scan readings (low-of ask) (ask .high) 0 (now (part .entry))) ⌝ }
 {
     let mut n: u32 = 0;
     let mut i: usize = 0;

@@ -14,7 +14,7 @@ use borrow.Author.Tests.{leb-true, leb-false}
 use Rattle.words.specs.Lists.{from, ceil, pieces}
 use Rattle.words.proofs.ListLaws.{pieces-cons, pieces-nil, ceil-below, ceil-reach, from-append, length-from}
 use Rattle.bins.specs.Bins.{Kind}
-use Rattle.bins.specs.Masks.{matches}
+use Rattle.bins.specs.Masks.{matches, fate}
 use Rattle.bins.specs.declared.Fate.{Fate}
 use Rattle.bins.specs.declared.Fate.the-variants.{Skipped, Whole, Compared}
 use Rattle.dictionary.specs.Dictionary.{unpack, count-of, repeated}
@@ -44,6 +44,25 @@ module _ (k : Kind) (q : Asked) (col : List ℤ) where
       let e : suc c + length a ≡ c + suc (length a) = omega arith in
       ap (with-line k (q .low) (q .high) (fate-in q w) (k .per * c) (values k col c 1)) (through-append a b (suc c) ∙ ap (λ (n : ℕ). then (through k q col (suc c) a) (through k q col n b)) e)
       ∙ with-then k (q .low) (q .high) (fate-in q w) (k .per * c) (values k col c 1) (through k q col (suc c) a) (through k q col (c + suc (length a)) b)
+
+-- ---- two ranges that the same values match
+
+module _ (k : Kind) (l l′ high : ℤ) (same : (v : ℤ) → matches k l high v ≡ matches k l′ high v) where
+  scan-same : (vs : List ℤ) (r : ℕ) → scan k l high r vs ≡ scan k l′ high r vs
+  scan-same [] r = refl
+  scan-same (v ∷ vs) r = ap₂ (λ (t : Bool) (next : List ℕ). cond t (r ∷ next) next) (same v) (scan-same vs (suc r))
+
+  with-same : (f : Fate) (r : ℕ) (vs : List ℤ) (a : Answer) → with-line k l high f r vs a ≡ with-line k l′ high f r vs a
+  with-same Skipped r vs a = refl
+  with-same Whole r vs a = refl
+  with-same Compared r vs a = ap (λ (ids : List ℕ). record { ids = ids ++ a .ids; skips = a .skips; wholes = a .wholes; compares = length vs + a .compares }) (scan-same vs r)
+
+  -- THE SEARCH IS THE SAME FROM EITHER LOW END
+  pub through-same : (n m i : ℕ) (col : List ℤ) (ws : List ℕ) (c : ℕ) → through k (record { low = l; high = high; bin-count = n; masked = m; inner-masked = i }) col c ws ≡ through k (record { low = l′; high = high; bin-count = n; masked = m; inner-masked = i }) col c ws
+  through-same n m i col [] c = refl
+  through-same n m i col (w ∷ ws) c =
+      with-same (fate n m i w) (k .per * c) (values k col c 1) (through k (record { low = l; high = high; bin-count = n; masked = m; inner-masked = i }) col (suc c) ws)
+      ∙ ap (with-line k l′ high (fate n m i w) (k .per * c) (values k col c 1)) (through-same n m i col ws (suc c))
 
 -- ---- n lines of one imprint
 

@@ -1,9 +1,11 @@
--- Demand 2, of any search: what it is for rows to rise, and what the three counts count. Assumes nothing.
+-- Demand 2, of any search: what it is for rows to rise and for none to be a fault's, and what the three counts count. Assumes nothing.
 use mathlib.Core.Path.{_≡_}
 use Prim.Native.Nat.{ℕ, suc, _+_, _≤_}
 use mathlib.Core.List.{List, [], _∷_}
-use lib.ListN.{length}
+use mathlib.Core.Bool.{false}
+use lib.ListN.{length, getD}
 use lib.IntN.{ℤ}
+use Rattle.bins.specs.Bins.{Kind, fault}
 use Rattle.bins.specs.declared.Fate.{Fate}
 use Rattle.bins.specs.declared.Fate.the-variants.{Skipped, Whole, Compared}
 use Rattle.run_search.specs.Search.{Answer}
@@ -12,6 +14,11 @@ use Rattle.run_search.specs.Search.{Answer}
 abbrev pub Rises : ℕ → ℕ → List ℕ → Type 0
 Rises a b [] = a ≤ b
 Rises a b (x ∷ xs) = (a ≤ x) × Rises (suc x) b xs
+
+-- none of the rows is a fault's, nor past the column's end, where a fault stands for what is not there
+abbrev pub No-faults : Kind → List ℤ → List ℕ → Type 0
+No-faults k col [] = Unit {0}
+No-faults k col (r ∷ rs) = (fault k (getD col r (k .least)) ≡ false) × No-faults k col rs
 
 -- ---- the counts
 

@@ -3,9 +3,10 @@ use Prim.Native.Nat.{zero, suc}
 use mathlib.Core.Path.{_≡_, refl, sym}
 use mathlib.Core.Bool.{Bool, true, false, false≢true}
 use native.Mathlib.Omega.{arith}
-use lib.IntN.{ℤ, pos, negsuc, predℤ}
+use lib.IntN.{ℤ, pos, negsuc, sucℤ, predℤ}
 use lib.Signed.{leZ, ltZ}
-use borrow.Author.Tests.{leb-true, le-leb, ltb-true, lt-ltb, leb-false}
+use lib.Dec.{leb·suc-suc}
+use borrow.Author.Tests.{leb-true, le-leb, ltb-true, lt-ltb, le-ltb, leb-false}
 
 pub leZ-refl : (a : ℤ) → leZ a a ≡ true
 leZ-refl (pos a) = le-leb a a (omega arith)
@@ -62,3 +63,12 @@ ltZ-pred (pos a) (negsuc b) h = absurd (false≢true h)
 ltZ-pred (negsuc a) (pos zero) h = le-leb 0 a (omega arith)
 ltZ-pred (negsuc a) (pos (suc b)) h = refl
 ltZ-pred (negsuc a) (negsuc b) h = le-leb (suc b) a (ltb-true b a h)
+
+-- at least one more than a: above a
+pub suc-leZ : (a b : ℤ) → leZ (sucℤ a) b ≡ ltZ a b
+suc-leZ (pos a) (pos b) = refl
+suc-leZ (pos a) (negsuc b) = refl
+suc-leZ (negsuc zero) (pos b) = le-leb 0 b (omega arith)
+suc-leZ (negsuc zero) (negsuc b) = sym (le-ltb b 0 (omega arith))
+suc-leZ (negsuc (suc a)) (pos b) = refl
+suc-leZ (negsuc (suc a)) (negsuc b) = sym (leb·suc-suc b a)

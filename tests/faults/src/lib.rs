@@ -1,5 +1,6 @@
 //! Tests of the tests: a stand-in for the library under the library's own names, made of the plain implementation.
-//! `MGZ_FAULT` plants one fault; `tests/faults/run` shows that the tests catch each. Never linked into anything else.
+//! `MGZ_PLANTED` plants one fault; `tests/faults/run` shows that the tests catch each. Never linked into anything else.
+//! Where faults of a column are meant, not planted ones, they are called dead probes here.
 #![allow(clippy::missing_safety_doc, clippy::too_many_arguments)]
 #[allow(dead_code)]
 #[path = "../../src/plain.rs"]
@@ -10,7 +11,7 @@ use std::sync::OnceLock;
 
 fn fault(name: &str) -> bool {
     static PLANTED: OnceLock<String> = OnceLock::new();
-    PLANTED.get_or_init(|| std::env::var("MGZ_FAULT").unwrap_or_default()) == name
+    PLANTED.get_or_init(|| std::env::var("MGZ_PLANTED").unwrap_or_default()) == name
 }
 
 unsafe fn read<'a, T>(at: *const T, length: usize) -> &'a [T] {
@@ -33,6 +34,38 @@ fn needed<T>(answer: &Result<T, No>) -> u64 {
     answer.as_ref().err().map_or(0, |no| no.needed)
 }
 
+/// The readings.
+fn live(column: &[i32]) -> Vec<i32> {
+    column.iter().copied().filter(|&v| !plain::fault(v)).collect()
+}
+
+/// Dead probes as the value just above theirs.
+fn raised(column: &[i32]) -> Vec<i32> {
+    column.iter().map(|&v| v.max(plain::FAULT + 1)).collect()
+}
+
+fn built(column: &[i32], spaces: [usize; 3]) -> Result<Index, No> {
+    let answer = plain::build(column, spaces);
+    if number(&answer) == 2 {
+        return answer;
+    }
+    if fault("dead-in-the-sample") {
+        let sample = column.iter().copied().step_by(plain::stride(column.len())).collect();
+        return plain::fitting(plain::carried(column, &plain::borders_of(sample)), spaces);
+    }
+    if fault("stride-over-the-live") {
+        return plain::fitting(plain::carried(column, &plain::borders(&live(column))), spaces);
+    }
+    if fault("dead-without-a-bin") {
+        let borders = plain::borders(column);
+        let lines = column.chunks(16).map(|line| (line, live(line)));
+        let list: Vec<u64> = lines.map(|(line, live)| plain::imprint(&borders, if live.is_empty() { line } else { &live })).collect();
+        let (imprints, dictionary) = plain::packing(&list);
+        return plain::fitting(Index { borders, imprints, dictionary }, spaces);
+    }
+    answer
+}
+
 #[no_mangle]
 pub unsafe extern "C" fn mgz_build(
     column: *const i32,
@@ -47,12 +80,11 @@ pub unsafe extern "C" fn mgz_build(
 ) -> u32 {
     let (column, out) = unsafe { (read(column, n), lent(out, 4)) };
     let (borders, imprints, dictionary) = unsafe { (lent(borders, b), lent(imprints, i), lent(dictionary, d)) };
-    let mut answer = plain::build(column, [b, i, d]);
+    let mut answer = built(column, [b, i, d]);
     if fault("last-short-line") && answer.is_ok() && n % 16 != 0 {
         let whole = &column[..n - n % 16];
         let kept = answer.unwrap().borders;
-        let (imprints, dictionary) = plain::packing(&plain::line_imprints(whole, &kept));
-        answer = Ok(Index { borders: kept, imprints, dictionary });
+        answer = Ok(plain::carried(whole, &kept));
     }
     if fault("short-dictionary-first") && number(&answer) == 4 {
         let index = plain::index(column);
@@ -84,6 +116,9 @@ fn appended(column: &[i32], covered: u64, index: &Told) -> Result<Index, No> {
     }
     let filled = covered.checked_next_multiple_of(16).filter(|&rows| rows <= column.len() as u64);
     let covered = if fault("short-line-trusted") { filled.unwrap_or(covered) } else { covered };
+    // Where the smallest value is a border and the next one is none, a raised probe lies in bin 1.
+    let in_bin_1 = index.borders.first() == Some(&plain::FAULT) && index.borders.get(1) != Some(&(plain::FAULT + 1));
+    let column: &[i32] = if fault("dead-by-the-borders") && in_bin_1 { &raised(column) } else { column };
     let mut answer = plain::append(column, covered, index);
     if let (true, Ok(after)) = (fault("full-lines-reread"), &mut answer) {
         (after.imprints, after.dictionary) = plain::packing(&plain::line_imprints(column, &after.borders));
@@ -202,11 +237,32 @@ pub unsafe extern "C" fn mgz_step(
     number(&answer)
 }
 
+fn masks(borders: &[i32], low: i32, high: i32) -> (u64, u64) {
+    let (mut mask, mut inner) = plain::masks(borders, low, high);
+    if fault("bin-0-inner") && low == plain::FAULT && plain::span(borders, 0).1 <= high as i64 {
+        inner |= 1;
+    }
+    if fault("low-by-the-borders") && low == plain::FAULT && borders.first() == Some(&low) {
+        mask = mask & !1 | 2;
+    }
+    (mask, inner)
+}
+
 fn searched(column: &[i32], borders: &[i32], imprints: &[u64], dictionary: &[u32], low: i32, high: i32, space: usize) -> Result<Found, No> {
     if fault("low-above-high-first") && high < low && column.len() <= plain::ROWS_AT_MOST {
         return Err(No { number: 1, needed: 0 });
     }
-    let mut found = plain::search(column, borders, imprints, &lax(dictionary), low, high, space)?;
+    let dictionary = lax(dictionary);
+    plain::search(column, borders, imprints, &dictionary, low, high, usize::MAX)?;
+    let list = plain::listed(borders, imprints, &dictionary, plain::lines(column.len()) as u64).unwrap();
+    let compared: &[i32] = if fault("dead-matched") && low == plain::FAULT { &raised(column) } else { column };
+    let mut found = plain::rows_of(compared, &list, masks(borders, low, high), low, high);
+    if fault("dead-left-out-of-whole-lines") {
+        found.ids.retain(|&row| !plain::fault(column[row as usize]));
+    }
+    if space < found.ids.len() {
+        return Err(No { number: 4, needed: found.ids.len() as u64 });
+    }
     if fault("high-left-out") {
         let before = found.ids.len();
         found.ids.retain(|&row| column[row as usize] != high || high == low || found.compared == 0);
@@ -387,6 +443,12 @@ pub unsafe extern "C" fn mgz_guarded_search(
                 *outcome = Outcome::EmptyLearnt(filter);
             }
         }
+    }
+    if let (true, Ok((Outcome::EmptyLearnt(_), found))) = (fault("dead-is-key-0"), &answer) {
+        let keys: Vec<i32> = column.iter().map(|&v| if plain::fault(v) { 0 } else { v }).collect();
+        let gap = plain::gap(&keys, Filter::meant(words).unwrap().keys(), low, high);
+        let learnt = gap.and_then(|(from, to)| plain::learn(words, from, to).ok());
+        answer = Ok((learnt.map_or(Outcome::EmptyNotLearnt, Outcome::EmptyLearnt), found.clone()));
     }
     if fault("denied-with-4") && m == 0 && number(&answer) == 0 && answer.as_ref().unwrap().0 == Outcome::Denied {
         answer = Err(No { number: 4, needed: 0 });

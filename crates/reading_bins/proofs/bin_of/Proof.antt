@@ -1,66 +1,31 @@
 -- `reading_bins::bin_of` meets its contract. Assumes nothing.
-use Prim.Native.Nat.{_≤_, _-_, _+_}
-use mathlib.Core.Path.{_≡_}
-use mathlib.Core.Bool.{true, false}
-use mathlib.Core.Logic.{⊎-elim}
-use native.Mathlib.Omega.{arith}
-use lib.ListN.{length, drop}
-use borrow.Author.Needs.{needs}
+use mathlib.Core.Path.{_≡_, sym, ap, _∙_}
+use lib.Signed.{leZ}
 use mir.Syntax.{w32}
 use mir.Val.{toZ, ofZ}
 use mir.ValLaws.{toZ-ofZ}
-use Rattle.bins.proofs.BinLaws.{bin-end}
-use Rattle.bins.proofs.TurnLaws.{bin-turn}
-use Rattle.bins.specs.Bins.{readings, bin}
+use Rattle.bins.specs.Bins.{readings, fault, not-above}
+use Rattle.bins.proofs.BinLaws.{fault-bin, reading-bin}
+use borrow.Author.Needs.{needs}
 use Rattle.reading_bins.proofs.bin_of.Statement.{statement}
 use Rattle.reading_bins.proofs.bin_of.Tie as tie
 
-abbrev Inv-loop : tie.InvT-loop
-Inv-loop borders v n₀ i₀ n i = (i ≤ length borders) × (n ≤ i) × (n + bin readings (drop i borders) (toZ w32 v) ≡ bin readings borders (toZ w32 v))
+-- the test, of the value itself
+tested : (s : tie.Start) → fault readings (s .args .v) ≡ leZ (toZ w32 (ofZ w32 (s .args .v))) (readings .least)
+tested s = ap (fault readings) (sym (toZ-ofZ w32 (s .args .v) (s .fits .v)))
 
-abbrev μ-loop : tie.MeasureT-loop
-μ-loop borders v n₀ i₀ n i = length borders - i
+not-above-requires : tie.Need-not-above-requires
+not-above-requires c κs = search needs
 
-loop-holds : tie.Need-loop-holds Inv-loop μ-loop
-loop-holds c = omega arith
+returns : tie.Need-returns
+returns c = let s = c .before .before in sym (fault-bin readings (s .args .borders .now) (s .args .v) (tested s ∙ c .if1 .taken))
 
-mul-if1 : tie.Need-mul-if1 Inv-loop μ-loop
-mul-if1 c = search needs
-
-shared-slice-copy-out-if1 : tie.Need-shared-slice-copy-out-if1 Inv-loop μ-loop
-shared-slice-copy-out-if1 c = search needs
-
-add-n : tie.Need-add-n Inv-loop μ-loop
-add-n c = search needs
-
-add-i : tie.Need-add-i Inv-loop μ-loop
-add-i c = search needs
-
-loop-less : tie.Need-loop-less Inv-loop μ-loop
-loop-less c = search needs
-
-loop-again : tie.Need-loop-again Inv-loop μ-loop
-loop-again c =
-    let turn = bin-turn readings w32 (c .before .before .before .before .args .borders .now) (toZ w32 (ofZ w32 (c .before .before .before .before .args .v))) (c .before .before .before .loop .i) in
-    ⊎-elim (λ w. omega (arith, turn true (c .before .before .loop-test .taken) (c .before .if12 .given) (w .0 .taken)))
-    (λ w. omega (arith, turn false (c .before .before .loop-test .taken) (c .before .if12 .given) (w .0 .left))) (c .if1 .came)
-
-returns : tie.Need-returns Inv-loop μ-loop
-returns c =
+returns-2 : tie.Need-returns-2
+returns-2 c =
     let s = c .before .before in
-    rw (← toZ-ofZ w32 (s .args .v) (s .fits .v)) (omega (arith, bin-end readings (s .args .borders .now) (toZ w32 (ofZ w32 (s .args .v))) (c .before .loop .i) (c .loop-test .left)))
+    c .before .not-above .ensures
+    ∙ ap (not-above (s .args .borders .now)) (toZ-ofZ w32 (s .args .v) (s .fits .v))
+    ∙ sym (reading-bin readings (s .args .borders .now) (s .args .v) (tested s ∙ c .if1 .left))
 
 pub bin-of-spec : {M : Type 1} → statement M
-bin-of-spec =
-    tie.close
-    (tie.spec
-    Inv-loop
-    μ-loop
-    loop-holds
-    mul-if1
-    shared-slice-copy-out-if1
-    add-n
-    add-i
-    loop-less
-    loop-again
-    returns)
+bin-of-spec = tie.close (tie.spec not-above-requires returns returns-2)

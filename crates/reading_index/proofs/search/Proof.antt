@@ -1,7 +1,8 @@
 -- `reading_index::search` meets its contract: each answer by the checks that led to it. Assumes nothing.
 use Prim.Native.Nat.{_≤_}
-use mathlib.Core.Path.{_≡_, refl, sym, ap₂, _∙_}
+use mathlib.Core.Path.{_≡_, refl, sym, ap, ap₂, _∙_}
 use lib.Dec.{lit<}
+use lib.IntN.{sucℤ}
 use lib.ListN.{length}
 use lib.Signed.{ltZ}
 use mir.Syntax.{w32}
@@ -9,6 +10,7 @@ use mir.Val.{toZ, ofZ}
 use mir.ValLaws.{toZ-ofZ}
 use Rattle.bins.specs.Bins.{readings}
 use Rattle.bins.specs.Masks.{mask, inner}
+use Rattle.bins.proofs.MaskLaws.{before}
 use Rattle.column_index.specs.Promise.{checked-answer}
 use Rattle.column_index.specs.declared.IndexCheck.the-variants as checking
 use Rattle.column_index.specs.declared.SearchAnswer.the-variants as searching
@@ -53,8 +55,11 @@ range-mask-requires c κs = few (c .before)
 inner-mask-requires : tie.Need-inner-mask-requires
 inner-mask-requires c κs = few (c .before .before)
 
+value-before-requires : tie.Need-value-before-requires
+value-before-requires c κs = search needs
+
 find-requires : tie.Need-find-requires
-find-requires c κs = let a = c .before .before .before .before .before .before .before .before .before .before .args in passed-lines readings (lit< tt) (a .column .now) (a .borders .now) (a .imprints .now) (a .dictionary .now) (fine (c .before .before .before .before))
+find-requires c κs = let a = c .before .before .before .before .before .before .before .before .before .before .before .args in passed-lines readings (lit< tt) (a .column .now) (a .borders .now) (a .imprints .now) (a .dictionary .now) (fine (c .before .before .before .before .before))
 
 returns-2 : tie.Need-returns-2
 returns-2 c = let a = c .before .before .before .before .before .before .args in record { answers = answered readings (a .column .now) (a .borders .now) (a .imprints .now) (a .dictionary .now) (a .low) (a .high) (a .rows .now) checking.TooLong (sym (c .before .before .checked .ensures) ∙ c .enum-told .given .1) searching.TooLong refl; rows-after = refl }
@@ -70,14 +75,16 @@ same-length c = search needs
 
 returns-5 : tie.Need-returns-5
 returns-5 c =
-    let s = c .before .before .before .before .before .before .before .before .before .before .before .before .before in
+    let s = c .before .before .before .before .before .before .before .before .before .before .before .before .before .before in
     let a = s .args in
     let l = toZ-ofZ w32 (a .low) (s .fits .low) in
     let h = toZ-ofZ w32 (a .high) (s .fits .high) in
-    let m = c .before .before .before .before .before .range-mask .ensures ∙ ap₂ (mask readings (a .borders .now)) l h in
-    let n = c .before .before .before .before .inner-mask .ensures ∙ ap₂ (inner readings (a .borders .now)) l h in
+    let m = c .before .before .before .before .before .before .range-mask .ensures ∙ ap₂ (mask readings (a .borders .now)) l h in
+    let n = c .before .before .before .before .before .inner-mask .ensures ∙ ap₂ (inner readings (a .borders .now)) l h in
+    let v = c .before .before .before .before .value-before in
+    let b = toZ-ofZ w32 (v .result) (record { sfits = v .ok }) ∙ v .ensures ∙ ap (before readings) l in
     let f = c .before .before .find in
-    answered-found readings (a .column .now) (a .borders .now) (a .imprints .now) (a .dictionary .now) (a .low) (a .high) (a .rows .now) (lit< tt) (fine (c .before .before .before .before .before .before .before)) (sym (test (c .before .before .before .before .before .before .before)) ∙ c .before .before .before .before .before .before .if1 .left) _ (λ i. record { low = l i; high = h i; bin-count = 64; masked = m i; inner-masked = n i }) (f .result) (f .last .1 .1 .1 .1 .0) (f .ensures .0) (f .ensures .1)
+    answered-found readings (a .column .now) (a .borders .now) (a .imprints .now) (a .dictionary .now) (a .low) (a .high) (a .rows .now) (lit< tt) (fine (c .before .before .before .before .before .before .before .before)) (sym (test (c .before .before .before .before .before .before .before .before)) ∙ c .before .before .before .before .before .before .before .if1 .left) _ (λ i. record { low = sucℤ (b i); high = h i; bin-count = 64; masked = m i; inner-masked = n i }) (f .result) (f .last .1 .1 .1 .1 .0) (f .ensures .0) (f .ensures .1)
 
 pub search-spec : {M : Type 1} → statement M
 search-spec =
@@ -91,6 +98,7 @@ search-spec =
     returns
     range-mask-requires
     inner-mask-requires
+    value-before-requires
     find-requires
     returns-2
     returns-3

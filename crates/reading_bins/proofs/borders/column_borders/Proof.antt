@@ -7,7 +7,7 @@ use lib.ListN.{length, take, drop}
 use lib.ListN.{length-append}
 use lib.Seq.{length-take-le}
 use Rattle.bins.specs.Bins.{readings, sort, sample, borders, borders-sorted}
-use Rattle.bins.proofs.SampleLaws.{sample-length, sample-few, front-sorted}
+use Rattle.bins.proofs.SampleLaws.{sample-le, front-sorted}
 use Rattle.bins.proofs.SortLaws.{sort-length}
 use borrow.Author.Needs.{needs}
 use Rattle.reading_bins.proofs.borders.column_borders.Statement.{statement}
@@ -21,7 +21,7 @@ fill-sample-requires c κs = search needs
 
 -- the sample is no longer than the array
 few : (c : tie.After-fill-sample) → c .fill-sample .result ≤ 2048
-few c = let col = c .before .before .args .column .now in omega (arith, c .fill-sample .ensures .0, sample-length readings col, sample-few (length col))
+few c = let col = c .before .before .args .column .now in omega (arith, c .fill-sample .ensures .0, sample-le readings col)
 
 fits : (c : tie.After-fill-sample) → c .fill-sample .result ≤ length (c .fill-sample .last .1 .0)
 fits c = omega (arith, few c, c .fill-sample .kept .1 .0)

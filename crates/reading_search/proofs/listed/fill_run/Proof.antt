@@ -13,7 +13,7 @@ use Rattle.words.proofs.ListLaws.{length-from}
 use Rattle.bins.specs.Bins.{readings}
 use Rattle.run_search.specs.Search.{scan}
 use Rattle.run_search.specs.loops.Runs.{fate-in, values}
-use Rattle.reading_search.specs.loops.Ask.{asked-of}
+use Rattle.reading_search.specs.loops.Ask.{low-of, asked-of}
 use Rattle.run_search.proofs.FillLaws.{skipped-ids, whole-ids, compared-ids, rows-end}
 use borrow.Author.Needs.{needs}
 use Rattle.reading_search.proofs.listed.fill_run.Statement.{statement}
@@ -62,7 +62,7 @@ fill-matches-requires c κs =
     let a = s .args in
     let e = c .before .before .before .before .before .lines-of .ensures in
     let i = ap length (compared-ids readings (asked-of (a .ask)) (a .column .now) (a .imprint) (a .line .0) (a .n) (fated (c .before .before .before .before) ∙ c .before .before .enum-told3 .given .1)) in
-    let m = ap₂ (λ (r : ℕ) (l : List ℤ). length (scan readings (a .ask .low) (a .ask .high) r l)) (c .first-row2 .ensures) e in
+    let m = ap₂ (λ (r : ℕ) (l : List ℤ). length (scan readings (low-of (a .ask)) (a .ask .high) r l)) (c .first-row2 .ensures) e in
     (omega (arith, s .pre .0, m, i), omega (arith, rows-end readings (lit≤ tt) (a .column .now) (a .line .0) (a .n) (omega (arith, s .pre .1)) (omega (arith, s .pre .2)), ap length e, c .first-row2 .ensures))
 
 returns : tie.Need-returns
@@ -89,7 +89,7 @@ returns-3 : tie.Need-returns-3
 returns-3 c =
     let a = c .before .before .before .before .before .before .before .before .before .before .args in
     let i = compared-ids readings (asked-of (a .ask)) (a .column .now) (a .imprint) (a .line .0) (a .n) (fated (c .before .before .before .before .before .before .before) ∙ c .before .before .before .before .before .enum-told3 .given .1) in
-    let m = ap₂ (λ (r : ℕ) (l : List ℤ). scan readings (a .ask .low) (a .ask .high) r l) (c .before .before .before .first-row2 .ensures) (c .before .before .before .before .before .before .before .before .lines-of .ensures) ∙ sym i in
+    let m = ap₂ (λ (r : ℕ) (l : List ℤ). scan readings (low-of (a .ask)) (a .ask .high) r l) (c .before .before .before .first-row2 .ensures) (c .before .before .before .before .before .before .before .before .lines-of .ensures) ∙ sym i in
     let e = c .before .before .fill-matches .ensures in
     (e .0 ∙ ap (sets (a .rows .now) (a .at)) m, e .1 ∙ ap (λ (l : List ℕ). a .at + length l) m)
 

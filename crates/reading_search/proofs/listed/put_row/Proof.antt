@@ -2,11 +2,13 @@
 use mathlib.Core.Path.{_≡_, refl, sym, _∙_}
 use mathlib.Core.List.{[]}
 use native.Mathlib.Omega.{arith}
+use lib.IntN.{sucℤ}
 use mir.Syntax.{w32}
 use mir.ValLaws.{toZ-ofZ}
 use Rattle.bins.specs.Bins.{readings}
 use Rattle.bins.specs.Masks.{matches}
 use borrow.Author.Needs.{needs}
+use Rattle.reading_search.specs.loops.Ask.{low-of}
 use Rattle.reading_search.proofs.listed.put_row.Statement.{statement}
 use Rattle.reading_search.proofs.listed.put_row.Tie as tie
 
@@ -14,13 +16,13 @@ in-range-requires : tie.Need-in-range-requires
 in-range-requires c κs = search needs
 
 -- what `in_range` says, of the range's own ends and the value
-tested : (c : tie.After-in-range) → matches readings (c .before .before .before .before .args .ask .low) (c .before .before .before .before .args .ask .high) (c .before .before .before .before .args .v) ≡ c .in-range .result
+tested : (c : tie.After-in-range) → matches readings (low-of (c .before .before .before .before .args .ask)) (c .before .before .before .before .args .ask .high) (c .before .before .before .before .args .v) ≡ c .in-range .result
 tested c =
     let s = c .before .before .before .before in
-    let l = toZ-ofZ w32 (s .args .ask .low) (record { sfits = c .before .before .struct-told .given .0 .1 }) in
+    let a = toZ-ofZ w32 (s .args .ask .above) (record { sfits = c .before .before .struct-told .given .0 .1 }) in
     let h = toZ-ofZ w32 (s .args .ask .high) (record { sfits = c .before .struct-told2 .given .1 .0 .1 }) in
     let v = toZ-ofZ w32 (s .args .v) (s .fits .v) in
-    sym (c .in-range .ensures ∙ (λ i. matches readings (l i) (h i) (v i)))
+    sym (c .in-range .ensures ∙ (λ i. matches readings (sucℤ (a i)) (h i) (v i)))
 
 cast-rows : tie.Need-cast-rows
 cast-rows c = search needs

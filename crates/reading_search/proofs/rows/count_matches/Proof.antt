@@ -11,11 +11,12 @@ use mir.ValLaws.{toZ-ofZ}
 use Rattle.bins.specs.Bins.{readings}
 use Rattle.run_search.specs.Search.{scan}
 use Rattle.run_search.proofs.RunLaws.{count-turn, count-none}
+use Rattle.reading_search.specs.loops.Ask.{low-of}
 use Rattle.reading_search.proofs.rows.count_matches.Statement.{statement}
 use Rattle.reading_search.proofs.rows.count_matches.Tie as tie
 
 abbrev Inv-loop : tie.InvT-loop
-Inv-loop part ask n₀ i₀ n i = (i ≤ length part) × (n ≤ i) × (n + length (scan readings (ask .low) (ask .high) 0 (drop i part)) ≡ length (scan readings (ask .low) (ask .high) 0 part))
+Inv-loop part ask n₀ i₀ n i = (i ≤ length part) × (n ≤ i) × (n + length (scan readings (low-of ask) (ask .high) 0 (drop i part)) ≡ length (scan readings (low-of ask) (ask .high) 0 part))
 
 abbrev μ-loop : tie.MeasureT-loop
 μ-loop part ask n₀ i₀ n i = length part - i
@@ -33,14 +34,14 @@ one-if-requires : tie.Need-one-if-requires Inv-loop μ-loop
 one-if-requires c κs = search needs
 
 -- the value of this turn counts or not
-turn : (c : tie.After-one-if Inv-loop μ-loop) → length (scan readings (c .before .before .before .before .args .ask .low) (c .before .before .before .before .args .ask .high) 0 (drop (c .before .before .before .loop .i) (c .before .before .before .before .args .part .now))) ≡ c .one-if .result + length (scan readings (c .before .before .before .before .args .ask .low) (c .before .before .before .before .args .ask .high) 0 (drop (c .before .before .before .loop .i + 1) (c .before .before .before .before .args .part .now)))
+turn : (c : tie.After-one-if Inv-loop μ-loop) → length (scan readings (low-of (c .before .before .before .before .args .ask)) (c .before .before .before .before .args .ask .high) 0 (drop (c .before .before .before .loop .i) (c .before .before .before .before .args .part .now))) ≡ c .one-if .result + length (scan readings (low-of (c .before .before .before .before .args .ask)) (c .before .before .before .before .args .ask .high) 0 (drop (c .before .before .before .loop .i + 1) (c .before .before .before .before .args .part .now)))
 turn c =
     let a = c .before .before .before .before .args in
     let i = c .before .before .before .loop .i in
     let v : ℤ = getD (a .part .now) i (pos 0) in
     let e = toZ-ofZ w32 v (record { sfits = c .before .one-if-arg .given }) in
-    count-turn readings (a .ask .low) (a .ask .high) (a .part .now) i (toZ w32 (ofZ w32 v)) (c .before .before .loop-test .taken) (sym e)
-    ∙ ap (λ (m : ℕ). m + length (scan readings (a .ask .low) (a .ask .high) 0 (drop (i + 1) (a .part .now)))) (sym (c .one-if .ensures .0))
+    count-turn readings (low-of (a .ask)) (a .ask .high) (a .part .now) i (toZ w32 (ofZ w32 v)) (c .before .before .loop-test .taken) (sym e)
+    ∙ ap (λ (m : ℕ). m + length (scan readings (low-of (a .ask)) (a .ask .high) 0 (drop (i + 1) (a .part .now)))) (sym (c .one-if .ensures .0))
 
 add-n : tie.Need-add-n Inv-loop μ-loop
 add-n c = omega (arith, c .one-if .ensures .1)
@@ -57,7 +58,7 @@ loop-again c = (omega arith, omega (arith, c .one-if .ensures .1), omega (arith,
 returns : tie.Need-returns Inv-loop μ-loop
 returns c =
     let a = c .before .before .args in
-    omega (arith, count-none readings (a .ask .low) (a .ask .high) (a .part .now) (c .before .loop .i) (c .loop-test .left))
+    omega (arith, count-none readings (low-of (a .ask)) (a .ask .high) (a .part .now) (c .before .loop .i) (c .loop-test .left))
 
 pub count-matches-spec : {M : Type 1} → statement M
 count-matches-spec =

@@ -7,7 +7,7 @@ use mathlib.Core.List.{List}
 use borrow.Author.Needs.{needs}
 use Rattle.bins.specs.Bins.{readings}
 use Rattle.run_search.specs.loops.Runs.{fate-in}
-use Rattle.reading_search.specs.loops.Ask.{asked-of}
+use Rattle.reading_search.specs.loops.Ask.{low-of, asked-of}
 use Rattle.run_search.specs.Search.{scan}
 use Rattle.run_search.proofs.RunLaws.{skipped-run, whole-run, compared-run, values-within}
 use Rattle.reading_search.proofs.rows.count_run.Statement.{statement}
@@ -67,7 +67,7 @@ returns-3 : tie.Need-returns-3
 returns-3 c =
     let a = c .before .before .before .before .before .before .before .args in
     let e = c .before .before .before .before .before .before .lines-of .ensures in
-    compared-run readings (asked-of (a .ask)) (a .column .now) (a .t) (a .imprint) (a .line .0) (a .n) (c .before .before .count-matches .result) (length (c .before .before .before .before .before .before .lines-of .result .now)) (c .before .before .count-matches .ensures ∙ ap (λ (l : List ℤ). length (scan readings (a .ask .low) (a .ask .high) 0 l)) e) (ap length e) (fated (c .before .before .before .before .before) ∙ c .before .before .before .enum-told3 .given .1)
+    compared-run readings (asked-of (a .ask)) (a .column .now) (a .t) (a .imprint) (a .line .0) (a .n) (c .before .before .count-matches .result) (length (c .before .before .before .before .before .before .lines-of .result .now)) (c .before .before .count-matches .ensures ∙ ap (λ (l : List ℤ). length (scan readings (low-of (a .ask)) (a .ask .high) 0 l)) e) (ap length e) (fated (c .before .before .before .before .before) ∙ c .before .before .before .enum-told3 .given .1)
 
 pub count-run-spec : {M : Type 1} → statement M
 count-run-spec =
