@@ -44,6 +44,11 @@ enum mgz_number {
 #define MGZ_LEVELS_AT_MOST 20
 #define MGZ_ROOM_AT_MOST 4095
 
+/* A fault: what a dead probe sends, and no reading. Build leaves faults out where it chooses borders, so a column of faults only has none.
+ * Build and append put them into the first bin, whatever the borders. A fault matches no range: with the column's own index no search lists
+ * it, not even one from the smallest value up. In the search with both it is no key. */
+#define MGZ_FAULT INT32_MIN
+
 /* Lines of a column of so many rows. An imprint and a dictionary space of this length are always long enough. */
 #define MGZ_LINES(rows) (((rows) + (MGZ_ROWS_PER_LINE - 1)) / MGZ_ROWS_PER_LINE)
 
@@ -143,8 +148,8 @@ uint32_t mgz_step(const uint32_t *dictionary, size_t dictionary_length, const ui
                   uint64_t place, uint64_t number, struct mgz_stepped *out);
 
 /* The rows whose values lie in low to high, both included, rising, at the front of `ids`: so with an index built from the column, or built
- * from its first rows and extended to it. With any other index that is not refused, the rows of the lines that it takes whole, and the
- * matching rows of those that it has compared. Numbers: 2, 5, 3, 1, 4. */
+ * from its first rows and extended to it; a fault is never among them. With any other index that is not refused, the rows of the lines that
+ * it takes whole, faults too, and the matching rows of those that it has compared. Numbers: 2, 5, 3, 1, 4. */
 uint32_t mgz_search(const int32_t *column, size_t column_length, const int32_t *borders, size_t borders_length, const uint64_t *imprints,
                     size_t imprints_length, const uint32_t *dictionary, size_t dictionary_length, int32_t low, int32_t high,
                     uint32_t *ids, size_t ids_length, struct mgz_found *out);

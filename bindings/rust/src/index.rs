@@ -318,8 +318,8 @@ pub struct Found<'a> {
 }
 
 /// Lists the rows whose values lie in a range, both ends included, at the front of a lent space: so with an index built from the
-/// column, or built from its first rows and extended to it. With any other index that is not refused, it lists the rows of the lines that it
-/// takes whole, and the matching rows of those compared.
+/// column, or built from its first rows and extended to it; a [fault](crate::FAULT) is never among them. With any other index that is not
+/// refused, it lists the rows of the lines that it takes whole, faults too, and the matching rows of those compared.
 ///
 /// ```
 /// use miguzoryane::{search, Error, IndexBuf};

@@ -27,6 +27,22 @@ pub use error::Error;
 pub use filter::{filter_words, guarded_search, Filter, FilterState, Outcome};
 pub use index::{append, build, lines, pack, search, unpack, Counts, Found, Index, IndexBuf, Lines, Position};
 
+/// What a dead probe sends, and no reading: a fault.
+///
+/// [`build`] leaves faults out where it chooses borders, so a column of faults only has none. [`build`] and [`append`] put them into the
+/// first bin, whatever the borders. A fault matches no range: with the column's own index no search lists it, not even one from the smallest
+/// value up. In [`guarded_search`] it is no key.
+///
+/// ```
+/// use miguzoryane::{IndexBuf, FAULT};
+///
+/// let ph = [71, 70, FAULT, 72];
+/// let index = IndexBuf::build(&ph)?;
+/// assert_eq!(index.rows(&ph, i32::MIN..=71)?, [0, 1]);
+/// assert_eq!(index.rows(&ph, i32::MIN..=i32::MAX)?, [0, 1, 3]);
+/// # Ok::<(), miguzoryane::Error>(())
+/// ```
+pub const FAULT: i32 = i32::MIN;
 /// A line is this many rows; the last one of a column may be shorter.
 pub const ROWS_PER_LINE: usize = 16;
 /// The longest column.
