@@ -95,13 +95,13 @@ module _ (k : Kind) where
   unfolding bin
   fault-bin bs v e = rw e
 
-  pub reading-bin : (bs : List ℤ) (v : ℤ) → fault k v ≡ false → bin k bs v ≡ not-above bs v
+  pub counted-bin : (bs : List ℤ) (v : ℤ) → fault k v ≡ false → bin k bs v ≡ not-above bs v
   unfolding bin
-  reading-bin bs v e = rw e
+  counted-bin bs v e = rw e
 
   -- so what lies in another bin is no fault
-  pub bin-reading : (bs : List ℤ) (v : ℤ) → 1 ≤ bin k bs v → fault k v ≡ false
-  bin-reading bs v h = go (fault k v) refl
+  pub bin-no-fault : (bs : List ℤ) (v : ℤ) → 1 ≤ bin k bs v → fault k v ≡ false
+  bin-no-fault bs v h = go (fault k v) refl
     where
       go : (t : Bool) → fault k v ≡ t → fault k v ≡ false
       go true e = absurd (omega (arith, fault-bin bs v e))
@@ -135,7 +135,7 @@ module _ (k : Kind) where
 
   -- and ends at or above it, unless v is a fault: that lies in bin 0 even where the first border is not above it
   pub last-ge : (bs : List ℤ) (z d v : ℤ) → rising bs ≡ true → fault k v ≡ false → leZ v z ≡ true → leZ v (getD (map predℤ bs ++ (z ∷ [])) (bin k bs v) d) ≡ true
-  last-ge bs z d v r f h = rw (reading-bin bs v f) (above-last bs z d v r h)
+  last-ge bs z d v r f h = rw (counted-bin bs v f) (above-last bs z d v r h)
 
   -- ---- imprints
 

@@ -13,7 +13,7 @@ use Rattle.words.proofs.BitLaws.{bit-word, some-no}
 use Rattle.words.proofs.Order.{leZ-other, leZ-trans, leZ-no, ltZ-nle, suc-leZ}
 use Rattle.bins.specs.Bins.{Kind, fault, bin, bins, rising}
 use Rattle.bins.specs.Masks.{matches, first-of, last-of, asked, inside, mask, inner}
-use Rattle.bins.proofs.BinLaws.{bin-reading, bin-mono, bin-le, first-le, last-ge}
+use Rattle.bins.proofs.BinLaws.{bin-no-fault, bin-mono, bin-le, first-le, last-ge}
 
 -- the word w lacks no bit that a row of the line needs
 abbrev pub Covers : Kind → List ℤ → ℕ → List ℤ → Type 0
@@ -53,7 +53,7 @@ module _ (k : Kind) (bs : List ℤ) (low high : ℤ) where
       let ins : inside k bs low high (bin k bs v) ≡ true = sym (bit-word (bins bs) (inside k bs low high) (bin k bs v) lt) ∙ not-false (bit (inner k bs low high) (bin k bs v)) out in
       let some = and-eq-true-iff (leb 1 (bin k bs v)) (asked k bs low high (bin k bs v) && (leZ low (first-of k bs (bin k bs v)) && leZ (last-of k bs (bin k bs v)) high)) .0 ins in
       let h = and-eq-true-iff (asked k bs low high (bin k bs v)) (leZ low (first-of k bs (bin k bs v)) && leZ (last-of k bs (bin k bs v)) high) .0 (some .1) in
-      let f : fault k v ≡ false = bin-reading k bs v (leb-true 1 (bin k bs v) (some .0)) in
+      let f : fault k v ≡ false = bin-no-fault k bs v (leb-true 1 (bin k bs v) (some .0)) in
       let g = and-eq-true-iff (leZ low (first-of k bs (bin k bs v))) (leZ (last-of k bs (bin k bs v)) high) .0 (h .1) in
       rw f
       (and-eq-true-iff (leZ low v) (leZ v high) .1 (

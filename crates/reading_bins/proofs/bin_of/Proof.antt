@@ -5,7 +5,7 @@ use mir.Syntax.{w32}
 use mir.Val.{toZ, ofZ}
 use mir.ValLaws.{toZ-ofZ}
 use Rattle.bins.specs.Bins.{readings, fault, not-above}
-use Rattle.bins.proofs.BinLaws.{fault-bin, reading-bin}
+use Rattle.bins.proofs.BinLaws.{fault-bin, counted-bin}
 use borrow.Author.Needs.{needs}
 use Rattle.reading_bins.proofs.bin_of.Statement.{statement}
 use Rattle.reading_bins.proofs.bin_of.Tie as tie
@@ -25,7 +25,7 @@ returns-2 c =
     let s = c .before .before in
     c .before .not-above .ensures
     ∙ ap (not-above (s .args .borders .now)) (toZ-ofZ w32 (s .args .v) (s .fits .v))
-    ∙ sym (reading-bin readings (s .args .borders .now) (s .args .v) (tested s ∙ c .if1 .left))
+    ∙ sym (counted-bin readings (s .args .borders .now) (s .args .v) (tested s ∙ c .if1 .left))
 
 pub bin-of-spec : {M : Type 1} → statement M
 bin-of-spec = tie.close (tie.spec not-above-requires returns returns-2)
