@@ -36,9 +36,8 @@ module _ (k : Kind) where
   unfolding inner inside
   inner-not-0 bs low high = bit-word (bins bs) (inside k bs low high) 0 (omega arith)
 
--- ---- a column of faults only: nothing is left of it without them
+  -- ---- a column of faults only: nothing is left of it without them
 
-module _ (k : Kind) where
   all-faults : (col : List ℤ) (d : ℤ) (i : ℕ) → without-faults k col ≡ [] → i < length col → fault k (getD col i d) ≡ true
   all-faults [] d i e h = absurd (omega arith)
   all-faults (v ∷ vs) d i e h = go (fault k v) refl e i h (all-faults vs d)

@@ -21,13 +21,17 @@ use Rattle.words.specs.Lists.{has}
 use Rattle.words.specs.Bits.{word}
 use Rattle.words.proofs.BitLaws.{word-lt}
 use Rattle.words.proofs.BitOps.{word-ext, word-add, word-none, word-more}
-use Rattle.bins.specs.Bins.{Kind, not-above, bin, bins, imprint, rising}
+use Rattle.bins.specs.Bins.{Kind, fault, not-above, bin, bins, imprint, rising}
 use Rattle.bins.specs.Masks.{first-of, last-of, asked, inside, inner}
 use Rattle.bins.proofs.BinLaws.{bin-le, above-yes, above-not}
 
 -- a test of two signed values, as the machine reads them back from their bits
 pub plain-le : (w : Width) (a b : ℤ) → SFits w a → SFits w b → leZ (toZ w (ofZ w a)) (toZ w (ofZ w b)) ≡ leZ a b
 plain-le w a b fa fb = ap₂ leZ (toZ-ofZ w a fa) (toZ-ofZ w b fb)
+
+-- and the test for a fault
+pub plain-fault : (k : Kind) (w : Width) (v : ℤ) → SFits w v → fault k v ≡ fault k (toZ w (ofZ w v))
+plain-fault k w v f = ap (fault k) (sym (toZ-ofZ w v f))
 
 -- `1 << b` as the machine computes it
 pub one-shl : (b : ℕ) → b < 64 → 1 * 2 ^ b % 2 ^ 64 ≡ 2 ^ b

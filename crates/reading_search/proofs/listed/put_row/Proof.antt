@@ -1,6 +1,5 @@
 -- `reading_search::listed::put_row` meets its contract. Assumes nothing.
 use mathlib.Core.Path.{_≡_, refl, sym, _∙_}
-use mathlib.Core.List.{[]}
 use native.Mathlib.Omega.{arith}
 use lib.IntN.{sucℤ}
 use mir.Syntax.{w32}
