@@ -7,6 +7,7 @@ use lib.Dec.{leb}
 use lib.ListN.{length, getD}
 use lib.IntN.{ℤ, pos, negsuc}
 use lib.Signed.{leZ, ltZ}
+use Rattle.words.specs.Numbers.{most-rows}
 use Rattle.words.specs.Lists.{from, ceil, pieces, has}
 use Rattle.words.specs.Bits.{word}
 
@@ -28,11 +29,7 @@ readings = record { per = 16; least = negsuc (2 ^ 31 - 1); greatest = pos (2 ^ 3
 abbrev pub InKind : Kind → List ℤ → Type 0
 InKind k col = (v : ℤ) → List·Memᴰ v col → (leZ (k .least) v ≡ true) × (leZ v (k .greatest) ≡ true)
 
--- the most rows of a column
-abbrev pub most-rows : ℕ
-most-rows = 16777216
-
--- and the most lines of a list: as many as those rows make
+-- the most lines of a list: as many as the most rows make
 abbrev pub most-lines : Kind → ℕ
 most-lines k = ceil most-rows (k .per)
 

@@ -1,20 +1,15 @@
-// What every kind of column shares: the most rows, kinds of number, the sample's stride, the words of masks, and what becomes of a line. Bins and imprints are defined here, over the kind, and their laws stand here.
+// What every kind of column shares: a line's number, the sample's stride, the words of masks, and what becomes of a line. Bins and imprints are defined here, over the kind, and their laws stand here.
 ghost use mathlib.Core.Path.{_≡_};
 ghost use Prim.Native.Nat.{ℕ, _+_, _^_, _<_, _≤_};
 ghost use mathlib.Core.Bool.{_&&_};
 ghost use lib.Dec.{leb};
 ghost use Rattle.words.specs.Bits.{word};
-ghost use Rattle.bins.specs.Bins.{most-rows, stride};
+ghost use Rattle.words.specs.Numbers.{most-rows};
+ghost use Rattle.bins.specs.Bins.{stride};
 ghost use Rattle.bins.specs.Masks.{fate};
-
-// The most rows that a column may have.
-pub const MOST_ROWS: usize = 16777216;
 
 // A line's number: never a row's.
 pub struct Line(pub usize);
-
-// A row's number.
-pub struct Row(pub usize);
 
 // What becomes of a line in a range search.
 pub enum Fate {

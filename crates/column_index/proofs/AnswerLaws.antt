@@ -11,7 +11,8 @@ use lib.IntN.{ℤ}
 use borrow.Author.Tests.{lt-ltb, le-ltb, leb-true}
 use Rattle.words.specs.Lists.{every}
 use Rattle.words.proofs.ListLaws.{sets-filled}
-use Rattle.bins.specs.Bins.{Kind, most-rows, most-lines, borders, rising, good-borders, bins}
+use Rattle.words.specs.Numbers.{most-rows}
+use Rattle.bins.specs.Bins.{Kind, most-lines, borders, rising, good-borders, bins}
 use Rattle.bins.proofs.BorderLaws.{borders-count}
 use Rattle.dictionary.specs.Dictionary.{pack, unpack, largest, fit, accepted}
 use Rattle.dictionary.proofs.IndexLaws.{accepted-lines}

@@ -9,7 +9,8 @@ use lib.Seq.{sets, length-take-le}
 use lib.IntN.{ℤ}
 use borrow.Author.Tests.{lt-ltb, le-ltb}
 use Rattle.words.specs.Lists.{ceil, filled}
-use Rattle.bins.specs.Bins.{Kind, most-rows, good-borders, bins}
+use Rattle.words.specs.Numbers.{most-rows}
+use Rattle.bins.specs.Bins.{Kind, good-borders, bins}
 use Rattle.dictionary.specs.Dictionary.{Packed, pack, unpack, largest}
 use Rattle.dictionary.specs.Told.{told-index}
 use Rattle.dictionary.specs.declared.packing.Packer.{Packer}

@@ -9,9 +9,9 @@ use lib.ListN.{length, take, drop, length-append, length-drop}
 use lib.Seq.{length-take-le}
 use lib.IntN.{ℤ}
 use borrow.Author.Tests.{le-ltb, ltb-false}
-use Rattle.words.specs.Numbers.{numbered}
+use Rattle.words.specs.Numbers.{numbered, most-rows}
 use Rattle.words.specs.Lists.{ceil, filled}
-use Rattle.bins.specs.Bins.{Kind, most-rows, borders, good-borders, bins, imprints}
+use Rattle.bins.specs.Bins.{Kind, borders, good-borders, bins, imprints}
 use Rattle.dictionary.specs.Dictionary.{pack, unpack, largest, accepted}
 use Rattle.dictionary.specs.Told.{told-index}
 use Rattle.dictionary.proofs.IndexLaws.{unpack-pack, pack-accepted}

@@ -6,7 +6,8 @@ use native.Mathlib.Omega.{arith}
 use lib.ListN.{length}
 use lib.Seq.{sets}
 use lib.IntN.{ℤ}
-use Rattle.bins.specs.Bins.{Kind, most-rows, borders}
+use Rattle.words.specs.Numbers.{most-rows}
+use Rattle.bins.specs.Bins.{Kind, borders}
 use Rattle.dictionary.specs.Dictionary.{largest}
 use Rattle.dictionary.specs.declared.packing.Packer.{Packer}
 use Rattle.dictionary.specs.loops.Packer.{imps-from, dict-from, starting, kept-then, words-then}

@@ -12,9 +12,9 @@ use lib.IntN.{ℤ, sucℤ}
 use lib.Signed.{ltZ}
 use borrow.Author.Tests.{ltb-true, ltb-false, lt-ltb, le-ltb}
 use Rattle.words.specs.Lists.{joined, every, after}
-use Rattle.words.specs.Numbers.{numbered}
+use Rattle.words.specs.Numbers.{numbered, most-rows}
 use Rattle.words.proofs.BitOps.{share-and, outside-and}
-use Rattle.bins.specs.Bins.{Kind, most-rows, most-lines, bins, good-borders}
+use Rattle.bins.specs.Bins.{Kind, most-lines, bins, good-borders}
 use Rattle.bins.specs.Masks.{fate, mask, inner}
 use Rattle.bins.specs.declared.Fate.{Fate}
 use Rattle.bins.specs.declared.Fate.the-variants.{Skipped, Whole, Compared}

@@ -8,10 +8,10 @@ use lib.Dec.{ltb, lit<, lit≤}
 use lib.ListN.{length, take}
 use lib.IntN.{ℤ}
 use borrow.Author.Tests.{le-ltb, ltb-false}
-use Rattle.words.specs.Numbers.{numbered}
+use Rattle.words.specs.Numbers.{numbered, most-rows}
 use Rattle.words.specs.Lists.{every, filled}
 use Rattle.words.proofs.ListLaws.{take-filled}
-use Rattle.bins.specs.Bins.{Kind, most-rows, most-lines, borders, good-borders, bins}
+use Rattle.bins.specs.Bins.{Kind, most-lines, borders, good-borders, bins}
 use Rattle.dictionary.specs.Dictionary.{pack, unpack, largest, fit, accepted}
 use Rattle.dictionary.proofs.IndexLaws.{unpack-pack, pack-unpack, accepted-lines, pack-accepted}
 use Rattle.column_index.specs.Index.{built}

@@ -10,9 +10,9 @@ use lib.IntN.{ℤ}
 use lib.Signed.{ltZ}
 use borrow.Author.Tests.{le-ltb, le-leb}
 use Rattle.words.specs.Lists.{filled}
-use Rattle.words.specs.Numbers.{numbered}
+use Rattle.words.specs.Numbers.{numbered, most-rows}
 use Rattle.words.proofs.ListLaws.{take-filled}
-use Rattle.bins.specs.Bins.{Kind, InKind, most-rows, imprints, borders, rising, good-borders}
+use Rattle.bins.specs.Bins.{Kind, InKind, imprints, borders, rising, good-borders}
 use Rattle.bins.proofs.BorderLaws.{borders-rising, borders-count}
 use Rattle.dictionary.specs.Dictionary.{largest, unpack}
 use Rattle.dictionary.proofs.IndexLaws.{unpack-pack}

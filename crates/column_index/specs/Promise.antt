@@ -8,9 +8,9 @@ use lib.Dec.{ltb}
 use lib.IntN.{ℤ}
 use lib.ListN.{length, take}
 use lib.Signed.{ltZ}
-use Rattle.words.specs.Numbers.{Number, numbered, done, low-above-high, column-too-long, no-index, space-too-short, bad-borders, covered-above-rows}
+use Rattle.words.specs.Numbers.{Number, numbered, done, low-above-high, column-too-long, no-index, space-too-short, bad-borders, covered-above-rows, most-rows}
 use Rattle.words.specs.Lists.{ceil, every, after}
-use Rattle.bins.specs.Bins.{Kind, most-rows, most-lines, borders, good-borders, bins}
+use Rattle.bins.specs.Bins.{Kind, most-lines, borders, good-borders, bins}
 use Rattle.dictionary.specs.Dictionary.{pack, unpack, largest, fit, accepted}
 use Rattle.dictionary.specs.Told.{told-index}
 use Rattle.column_index.specs.Index.{built, is-index-for}

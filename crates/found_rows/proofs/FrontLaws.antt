@@ -8,10 +8,10 @@ use lib.Dec.{ltb}
 use lib.IntN.{ℤ}
 use lib.ListN.{length, take, drop, length-append}
 use lib.Signed.{ltZ}
-use Rattle.words.specs.Numbers.{numbered}
+use Rattle.words.specs.Numbers.{numbered, most-rows}
 use Rattle.words.specs.Lists.{after, filled}
 use Rattle.words.proofs.ListLaws.{take-filled}
-use Rattle.bins.specs.Bins.{most-rows, readings, good-borders}
+use Rattle.bins.specs.Bins.{readings, good-borders}
 use Rattle.run_search.specs.Search.{search-by}
 use Rattle.column_index.specs.Index.{is-index-for}
 use Rattle.column_index.specs.Promise.{search-number, search-answer}

@@ -8,9 +8,9 @@ use lib.Dec.{lit<}
 use lib.IntN.{ℤ, pos}
 use lib.ListN.{length, take}
 use lib.Signed.{ltZ}
-use Rattle.words.specs.Numbers.{numbered, no-filter}
+use Rattle.words.specs.Numbers.{numbered, no-filter, most-rows}
 use Rattle.words.specs.Lists.{different}
-use Rattle.bins.specs.Bins.{readings, InKind, most-rows, without-faults}
+use Rattle.bins.specs.Bins.{readings, InKind, without-faults}
 use Rattle.run_search.specs.Search.{scan}
 use Rattle.run_search.specs.Listed.{No-faults}
 use Rattle.column_index.specs.Index.{Own}

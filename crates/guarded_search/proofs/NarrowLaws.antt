@@ -4,13 +4,11 @@ use mathlib.Core.Bool.{Bool, true, false, cond, _&&_, _||_}
 use mathlib.Core.List.{List, [], _∷_}
 use Prim.Native.Nat.{ℕ, suc, _+_, _-_, _^_, _≤_, _<_, min, max}
 use native.Mathlib.Omega.{arith}
-use lib.Dec.{ltb, T}
+use lib.Dec.{ltb}
 use lib.IntN.{ℤ, pos, negsuc, natAbs}
 use lib.ListN.{length, drop, getD, drop-of-length-le}
 use lib.Seq.{drop-cons}
-use lib.Signed.{ltZ, nonNeg}
-use mir.Syntax.{w32}
-use mir.Val.{Fits, SFits}
+use lib.Signed.{ltZ}
 use native.Mathlib.Numerals.{add-one}
 use borrow.Author.Tests.{ltb-true, ltb-false, lt-leb, le-leb, lt-ltb, le-ltb}
 use Rattle.guarded_search.specs.Guarded.{keys, some-in, gap-low, gap-high}
@@ -90,11 +88,6 @@ narrow-negative span lo hi g (negsuc n) e = refl
 pub narrow-natural : (span lo hi : ℕ) (g : Gap) (v : ℤ) → ltZ v (pos 0) ≡ false → narrow-key span lo hi g (natAbs v) ≡ narrow span lo hi g v
 narrow-natural span lo hi g (pos n) e = refl
 narrow-natural span lo hi g (negsuc n) e = absurd (not-both true refl e)
-
--- it fits the unsigned type
-pub natural-fits : (v : ℤ) → SFits w32 v → ltZ v (pos 0) ≡ false → T (nonNeg v) × Fits w32 (natAbs v)
-natural-fits (pos n) f e = (tt, record { fits = omega (arith, f .sfits) })
-natural-fits (negsuc n) f e = absurd (not-both true refl e)
 
 -- ---- the pass
 

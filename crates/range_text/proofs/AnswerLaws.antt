@@ -10,9 +10,9 @@ use lib.ListN.{length, getD, take}
 use lib.Signed.{ltZ}
 use borrow.Author.Tests.{le-ltb, le-leb}
 use Rattle.words.specs.Lists.{ceil, after}
-use Rattle.words.specs.Numbers.{numbered}
+use Rattle.words.specs.Numbers.{numbered, most-rows}
 use Rattle.words.proofs.ListLaws.{take-filled}
-use Rattle.bins.specs.Bins.{most-rows, readings, borders, good-borders, rising}
+use Rattle.bins.specs.Bins.{readings, borders, good-borders, rising}
 use Rattle.bins.proofs.BorderLaws.{borders-count, borders-rising}
 use Rattle.dictionary.specs.Dictionary.{unpack}
 use Rattle.column_index.specs.Index.{built, line-count}

@@ -9,7 +9,8 @@ ghost use Prim.Native.Nat.{_≤_};
 ghost use mathlib.Core.Bool.{true};
 ghost use lib.ListN.{length};
 ghost use Rattle.words.specs.Lists.{ceil};
-ghost use Rattle.bins.specs.Bins.{readings, most-rows, good-borders, bins};
+ghost use Rattle.words.specs.Numbers.{most-rows};
+ghost use Rattle.bins.specs.Bins.{readings, good-borders, bins};
 ghost use Rattle.dictionary.specs.Told.{told-index};
 ghost use Rattle.column_index.specs.Promise.{Appends};
 
@@ -62,7 +63,7 @@ pub fn append(
 ) -> AppendAnswer
     ensures { λ r. ⌜ Appends readings (now (column .entry)) covered (now (borders .entry)) (now (imprints .entry)) «imprints_told» (now (dictionary .entry)) «dictionary_told» r (now (imprints .exit)) (now (dictionary .exit)) ⌝ }
 {
-    if bins::MOST_ROWS < column.len() {
+    if words::MOST_ROWS < column.len() {
         return AppendAnswer::TooLong;
     }
     if column.len() < covered {

@@ -8,7 +8,8 @@ ghost use Prim.Native.Nat.{_+_, _<_, _≤_};
 ghost use lib.IntN.{pos};
 ghost use lib.ListN.{length, getD, take, drop};
 ghost use lib.Seq.{sets};
-ghost use Rattle.bins.specs.Bins.{readings, most-rows, without-faults, sample, once, spread, borders-sorted, borders};
+ghost use Rattle.words.specs.Numbers.{most-rows};
+ghost use Rattle.bins.specs.Bins.{readings, without-faults, sample, once, spread, borders-sorted, borders};
 
 // Writes a sampled value at place i, unless it is a fault. Gives the next place.
 fn put_sampled(out: &mut [i32], i: usize, v: i32) -> usize

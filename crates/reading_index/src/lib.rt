@@ -9,8 +9,8 @@ ghost use mathlib.Core.Path.{_≡_};
 ghost use Prim.Native.Nat.{_≤_};
 ghost use lib.ListN.{length};
 ghost use Rattle.words.specs.Lists.{after};
-ghost use Rattle.words.specs.Numbers.{numbered};
-ghost use Rattle.bins.specs.Bins.{readings, most-rows, most-lines};
+ghost use Rattle.words.specs.Numbers.{numbered, most-rows};
+ghost use Rattle.bins.specs.Bins.{readings, most-lines};
 ghost use Rattle.dictionary.specs.Dictionary.{unpack};
 ghost use Rattle.run_search.specs.loops.Runs.{through, Readable};
 ghost use Rattle.reading_search.specs.loops.Ask.{asked-of};
@@ -20,7 +20,7 @@ ghost use Rattle.column_index.specs.Promise.{Searches, search-room, search-numb
 pub fn checked(column: &[i32], borders: &[i32], imprints: &[u64], dictionary: &[u32]) -> IndexCheck
     ensures { λ r. ⌜ r ≡ checked-answer readings (now (column .entry)) (now (borders .entry)) (now (imprints .entry)) (now (dictionary .entry)) ⌝ }
 {
-    if bins::MOST_ROWS < column.len() {
+    if words::MOST_ROWS < column.len() {
         return IndexCheck::TooLong;
     }
     if reading_bins::good_borders(borders) {

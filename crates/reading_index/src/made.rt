@@ -11,7 +11,8 @@ ghost use mathlib.Core.Path.{_≡_};
 ghost use Prim.Native.Nat.{_≤_};
 ghost use lib.ListN.{length};
 ghost use lib.Seq.{sets};
-ghost use Rattle.bins.specs.Bins.{readings, most-rows, borders};
+ghost use Rattle.words.specs.Numbers.{most-rows};
+ghost use Rattle.bins.specs.Bins.{readings, borders};
 ghost use Rattle.column_index.specs.Promise.{Builds, Packs, Unpacks};
 
 // The borders, at the front of a space that is long enough.
@@ -69,7 +70,7 @@ pub fn build(
 ) -> BuildAnswer
     ensures { λ r. ⌜ Builds readings (now (column .entry)) (now (borders .entry)) (now (imprints .entry)) (now (dictionary .entry)) r (now (borders .exit)) (now (imprints .exit)) (now (dictionary .exit)) ⌝ }
 {
-    if bins::MOST_ROWS < column.len() {
+    if words::MOST_ROWS < column.len() {
         return BuildAnswer::TooLong;
     }
     let mut found = [0i32; 63];

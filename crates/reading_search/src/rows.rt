@@ -1,13 +1,14 @@
 // The rows of a range, counted entry by entry. A repeat entry that is skipped or taken whole is one step, however many lines it has.
 use bins::Fate;
 use bins::Line;
-use bins::Row;
 use run_search::Tally;
+use words::Row;
 ghost use mathlib.Core.Path.{_≡_};
 ghost use mathlib.Core.Bool.{cond};
 ghost use Prim.Native.Nat.{_+_, _*_, _≤_};
 ghost use lib.ListN.{length};
-ghost use Rattle.bins.specs.Bins.{readings, most-rows, most-lines};
+ghost use Rattle.words.specs.Numbers.{most-rows};
+ghost use Rattle.bins.specs.Bins.{readings, most-lines};
 ghost use Rattle.bins.specs.Masks.{matches};
 ghost use Rattle.dictionary.specs.Dictionary.{count-of, unpack};
 ghost use Rattle.run_search.specs.Search.{scan};

@@ -1,5 +1,5 @@
 // What the searches of every kind of column share: what they count, and rows in a row. The search is defined here, over the kind, and its laws stand here.
-use bins::Row;
+use words::Row;
 ghost use mathlib.Core.Path.{_≡_};
 ghost use Prim.Native.Nat.{_+_, _≤_};
 ghost use lib.ListN.{length};

@@ -9,7 +9,7 @@ use native.Mathlib.Nat.{div-eq-of-lt, add-div-left, mul-zero, mul-suc, suc-mul, 
 use native.Mathlib.Omega.{arith}
 use native.Mathlib.Numerals.{add-one}
 use lib.ListN.{length, take, drop, length-append, take-append-drop, length-drop, length-map, set, drop-of-length-le}
-use lib.Seq.{take-all, take-at, drop-append-add, length-take-le, take-append-seam, sets, sets-eq}
+use lib.Seq.{take-all, take-at, drop-at, drop-append-add, length-take-le, take-append-seam, sets, sets-eq}
 use Rattle.words.specs.Lists.{from, ceil, pieces, joined, every, same, filled, after}
 
 pub ceil-zero : (k : ℕ) → 0 < k → ceil 0 k ≡ 0
@@ -190,3 +190,14 @@ sets-whole {A = A} xs l e =
     sets-filled xs l (omega arith)
     ∙ ap (λ (m : List A). xs ++ m) (drop-of-length-le l {i = length xs} (omega arith))
     ∙ append-nil xs
+
+-- ---- two parts lent one after the other: the front a comes back, then the rest b
+
+module _ {ℓ} {A : Type ℓ} (v a : List A) (m : ℕ) (l : length a ≡ m) where
+  pub rest-lent : take (length (a ++ drop m v) - m) (drop m (a ++ drop m v)) ≡ drop m v
+  rest-lent = ap (take (length (a ++ drop m v) - m)) (drop-at a (drop m v) m l) ∙ take-all (length (a ++ drop m v) - m) (drop m v) (omega (arith, length-append a (drop m v)))
+
+  pub both-back : (b : List A) → take m (a ++ drop m v) ++ (b ++ drop (length (a ++ drop m v) - m) (drop m (a ++ drop m v))) ≡ a ++ b
+  both-back b =
+      let z : drop (length (a ++ drop m v) - m) (drop m (a ++ drop m v)) ≡ [] = ap (drop (length (a ++ drop m v) - m)) (drop-at a (drop m v) m l) ∙ drop-of-length-le (drop m v) {i = length (a ++ drop m v) - m} (omega (arith, length-append a (drop m v))) in
+      ap (λ (x : List A). x ++ (b ++ drop (length (a ++ drop m v) - m) (drop m (a ++ drop m v)))) (take-at a (drop m v) m l) ∙ ap (λ (x : List A). a ++ (b ++ x)) z ∙ ap (λ (x : List A). a ++ x) (append-nil b)

@@ -3,9 +3,11 @@ use Prim.Native.Nat.{zero, suc}
 use mathlib.Core.Path.{_≡_, refl, sym}
 use mathlib.Core.Bool.{Bool, true, false, false≢true}
 use native.Mathlib.Omega.{arith}
-use lib.IntN.{ℤ, pos, negsuc, sucℤ, predℤ}
-use lib.Signed.{leZ, ltZ}
-use lib.Dec.{leb·suc-suc}
+use lib.IntN.{ℤ, pos, negsuc, sucℤ, predℤ, natAbs}
+use lib.Signed.{leZ, ltZ, nonNeg}
+use lib.Dec.{leb·suc-suc, T}
+use mir.Syntax.{w32}
+use mir.Val.{Fits, SFits}
 use borrow.Author.Tests.{leb-true, le-leb, ltb-true, lt-ltb, le-ltb, leb-false}
 
 pub leZ-refl : (a : ℤ) → leZ a a ≡ true
@@ -72,3 +74,8 @@ suc-leZ (negsuc zero) (pos b) = le-leb 0 b (omega arith)
 suc-leZ (negsuc zero) (negsuc b) = sym (le-ltb b 0 (omega arith))
 suc-leZ (negsuc (suc a)) (pos b) = refl
 suc-leZ (negsuc (suc a)) (negsuc b) = sym (leb·suc-suc b a)
+
+-- a value that is not below 0 fits the unsigned type
+pub natural-fits : (v : ℤ) → SFits w32 v → ltZ v (pos 0) ≡ false → T (nonNeg v) × Fits w32 (natAbs v)
+natural-fits (pos n) f e = (tt, record { fits = omega (arith, f .sfits) })
+natural-fits (negsuc n) f e = absurd (false≢true (sym e))

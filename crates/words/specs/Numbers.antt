@@ -19,3 +19,7 @@ numbered nothing-to-forget = 10
 numbered room-too-large = 11
 numbered unreadable = 12
 numbered covered-above-rows = 17
+
+-- the most rows of a column; a longer one is 2
+abbrev pub most-rows : ℕ
+most-rows = 16777216

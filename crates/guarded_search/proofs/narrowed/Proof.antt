@@ -5,7 +5,8 @@ use lib.Signed.{ltZ}
 use mir.Syntax.{w32}
 use mir.ValLaws.{toZ-ofZ}
 use Rattle.guarded_search.specs.loops.Steps.{narrow-key}
-use Rattle.guarded_search.proofs.NarrowLaws.{narrow-negative, natural-fits, narrow-natural}
+use Rattle.words.proofs.Order.{natural-fits}
+use Rattle.guarded_search.proofs.NarrowLaws.{narrow-negative, narrow-natural}
 use borrow.Author.Needs.{needs}
 use Rattle.guarded_search.proofs.narrowed.Statement.{statement}
 use Rattle.guarded_search.proofs.narrowed.Tie as tie
