@@ -41,6 +41,9 @@ use Rattle.range_filter.specs.declared.Reading.{Reading}
 use Rattle.range_filter.proofs.Keeps.{made-filter}
 use Rattle.range_filter.proofs.Never.{ask-not-8, learn-not-8, arrive-not-8, depart-not-8, forget-not-8, read-not-8}
 use Rattle.range_filter.proofs.Only.{fresh-refused, learn-refused, arrive-refused, forget-refused}
+use Rattle.hour_register.specs.Promise.{register-number, Registers}
+use Rattle.hour_register.specs.declared.RegisterAnswer.{RegisterAnswer}
+use Rattle.hour_register.proofs.PromiseLaws.{registers-keeps}
 use Rattle.guarded_search.specs.Guarded.{keys}
 use Rattle.guarded_search.specs.Promise.{guard-number, Guards}
 use Rattle.guarded_search.specs.Searching.{Turn, Searching, Few-wasted, All-exact}
@@ -90,6 +93,9 @@ demand-1-forget p ne = forget-refused p ne
 
 pub demand-1-guarded : {w w′ rows rows′ : List ℕ} {col bs : List ℤ} {is ds : List ℕ} {lo hi : ℕ} {r : GuardAnswer} → Guards w col bs is ds lo hi rows r w′ rows′ → (guard-number r ≡ 0 → ⊥) → (w′ ≡ w) × (rows′ ≡ rows)
 demand-1-guarded p ne = guards-refused p ne
+
+pub demand-1-register : {col : List ℤ} {ws ws′ : List ℕ} {r : RegisterAnswer} → Registers col ws r ws′ → (numbered (register-number r) ≡ 0 → ⊥) → ws′ ≡ ws
+demand-1-register p ne = registers-keeps p ne
 
 -- words left by a fresh filter and any calls, searches with both among them, are never refused with 8
 module _ {w : List ℕ} (h : Left-with-both w) where

@@ -1,0 +1,10 @@
+pub mod CutLaws
+pub mod SortLaws
+pub mod CountLaws
+pub mod NoteLaws
+pub mod FillLaws
+pub mod AnswerLaws
+pub mod PromiseLaws
+pub mod EntryLaws
+pub mod RegisterLaws
+pub mod ExampleLaws
