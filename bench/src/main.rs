@@ -1,9 +1,10 @@
-//! Build and search beside an ordinary Rust scan, append beside build, in one run, as ratios. Prints tables in markdown; its progress goes to
-//! standard error.
+//! Build and search beside an ordinary Rust scan, append beside build, the register beside a plain loop, in one run, as ratios. Prints tables in
+//! markdown; its progress goes to standard error.
 //! `MGZ_BENCH_ROWS`, `MGZ_BENCH_REPS` and `MGZ_BENCH_CALLS` make it shorter or longer.
 mod appends;
 mod filters;
 mod inputs;
+mod registers;
 
 use miguzoryane::{guarded_search, search, Filter, IndexBuf, Outcome, ROWS_AT_MOST};
 use std::hint::black_box;
@@ -151,5 +152,6 @@ fn main() {
     println!("{appended}");
     println!("| an empty range of the drifting column: look and learn, ms | denied, ms | search without the filter, ms |");
     println!("|---|---|---|\n{guarded}\n");
+    registers::measure(rows, reps.min(5));
     filters::measure(reps, calls);
 }

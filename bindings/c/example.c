@@ -1,5 +1,5 @@
 /* Column A of document 01 (32 rows of 5, then 8 rows of 20), its index, its rows with the value 20, and an empty stretch asked for twice;
- * then 60 more rows of 20 come, and the index grows where it stands. */
+ * then 60 more rows of 20 come, and the index grows where it stands. Last, the register of a night whose clock goes back to 02:00. */
 #include "miguzoryane.h"
 
 #include <stdio.h>
@@ -11,6 +11,20 @@ static const char *const outcomes[] = {"denied", "found", "empty and learnt", "e
 static int refused(uint32_t number) {
     if (number != MGZ_DONE) printf("refused %u\n", (unsigned)number);
     return number != MGZ_DONE;
+}
+
+static int hours_of_the_night(void) {
+    enum { MINUTES = 6, SPACE = MGZ_REGISTER_WORDS * MINUTES };
+    static const int32_t minutes[MINUTES] = {119, 120, 150, 179, 120, 150};
+    uint32_t words[SPACE];
+    struct mgz_registered registered;
+    if (refused(mgz_register(minutes, MINUTES, words, SPACE, &registered))) return 1;
+    for (uint64_t number = 0; number < registered.entries; number++) {
+        const uint32_t *entry = words + MGZ_REGISTER_WORDS * number;
+        printf("hour %u repeat %u first row %u rows %u\n", (unsigned)entry[MGZ_REGISTER_HOUR], (unsigned)entry[MGZ_REGISTER_REPEAT],
+               (unsigned)entry[MGZ_REGISTER_FIRST_ROW], (unsigned)entry[MGZ_REGISTER_ROWS]);
+    }
+    return 0;
 }
 
 int main(void) {
@@ -54,5 +68,5 @@ int main(void) {
     if (refused(number)) return 1;
     printf("rows %d lines %d imprints %u dictionary %u\n", MORE_ROWS, MORE_LINES, (unsigned)grown.imprints, (unsigned)grown.dictionary);
     printf("20: %u rows, the last is %u\n", (unsigned)found.rows, (unsigned)ids[found.rows - 1]);
-    return 0;
+    return hours_of_the_night();
 }

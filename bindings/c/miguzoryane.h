@@ -2,7 +2,8 @@
  *
  * Every call answers a number (mgz_number below; 0 is done). An answer but 0 changes no lent space. Every call writes its
  * `out` words, always all of them: at any number but MGZ_DONE they are 0, but for `needed`, which MGZ_SPACE_SHORT fills with the length
- * the first short space would need; at MGZ_DONE `needed` is 0. MGZ_DONE changes only the words that the answer fills.
+ * the first short space would need, and `row`, which MGZ_NEGATIVE_MINUTE fills; at MGZ_DONE both are 0. MGZ_DONE changes only the words
+ * that the answer fills.
  *
  * A space is a pointer and a number of elements. The caller keeps every space; the library allocates nothing, keeps no
  * pointer after a call, has no global state, and returns from every call.
@@ -34,6 +35,7 @@ enum mgz_number {
     MGZ_NO_ROOM = 9,            /* learning would need more splits than the room */
     MGZ_NOTHING_TO_FORGET = 10, /* the tree is a single leaf */
     MGZ_ROOM_TOO_LARGE = 11,    /* room above MGZ_ROOM_AT_MOST */
+    MGZ_NEGATIVE_MINUTE = 13,   /* a minute is negative, or a fault; `row` is the first such row */
     MGZ_COVERED_ABOVE_ROWS = 17 /* the index is said to cover more rows than the column has */
 };
 
@@ -46,7 +48,7 @@ enum mgz_number {
 
 /* A fault: what a dead probe sends, and no reading. Build leaves faults out where it chooses borders, so a column of faults only has none.
  * Build and append put them into the first bin, whatever the borders. A fault matches no range: with the column's own index no search lists
- * it, not even one from the smallest value up. In the search with both it is no key. */
+ * it, not even one from the smallest value up. In the search with both it is no key. A register refuses it, as any negative minute. */
 #define MGZ_FAULT INT32_MIN
 
 /* Lines of a column of so many rows. An imprint and a dictionary space of this length are always long enough. */
@@ -118,6 +120,22 @@ struct mgz_guarded {
     uint64_t compared;
 };
 
+/* The words of a register's entry, which is one discharge hour. */
+enum mgz_register_word {
+    MGZ_REGISTER_HOUR = 0,      /* its minutes over 60, rounded down */
+    MGZ_REGISTER_REPEAT = 1,    /* how many earlier entries have that hour: 0 the first time, 1 where the clock went back */
+    MGZ_REGISTER_FIRST_ROW = 2,
+    MGZ_REGISTER_ROWS = 3,      /* never 0 */
+    MGZ_REGISTER_WORDS = 4      /* so many words an entry */
+};
+
+/* How many entries a register has; the first row whose minute is negative. */
+struct mgz_registered {
+    uint64_t needed;
+    uint64_t entries;
+    uint64_t row;
+};
+
 /* Builds the index of a column: its borders, the imprints kept and the dictionary, at the front of the three spaces. An index is handed to the
  * other calls as exactly its words, so with the lengths `out` gives. Numbers, in the order they are checked: 2, 4. */
 uint32_t mgz_build(const int32_t *column, size_t column_length, int32_t *borders, size_t borders_length, uint64_t *imprints,
@@ -185,6 +203,14 @@ uint32_t mgz_guarded_search(uint32_t *words, size_t words_length, const int32_t 
                             size_t borders_length, const uint64_t *imprints, size_t imprints_length, const uint32_t *dictionary,
                             size_t dictionary_length, uint32_t low, uint32_t high, uint32_t *ids, size_t ids_length,
                             struct mgz_guarded *out);
+
+/* The hour register of a time column in minutes: one entry per discharge hour, in row order, at the front of `words`, each as the four words
+ * of enum mgz_register_word. A new entry begins at row 0, where the hour is another than in the row before, and where the minute is smaller:
+ * so once a smaller minute has shown that the clock went back, the second 02:30 is in a later entry than the first. Equal neighbouring
+ * minutes stay together. The entries cover every row exactly once; hour and repeat number name one entry.
+ * Lengths are in words: `needed` is MGZ_REGISTER_WORDS for each entry, and as many for each row are always enough.
+ * Numbers: 2, 13, 4. */
+uint32_t mgz_register(const int32_t *minutes, size_t minutes_length, uint32_t *words, size_t words_length, struct mgz_registered *out);
 
 #ifdef __cplusplus
 }

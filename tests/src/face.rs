@@ -98,4 +98,5 @@ extern "C" {
         ids_length: usize,
         out: *mut u64,
     ) -> u32;
+    pub fn mgz_register(minutes: *const i32, minutes_length: usize, words: *mut u32, words_length: usize, out: *mut u64) -> u32;
 }

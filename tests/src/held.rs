@@ -1,7 +1,7 @@
 //! Each call made of the library and of the plain implementation, and everything compared: the number, every word
 //! of every lent space (of the read ones too), and the guard words on both sides of each. The answer handed back is the plain one.
 use crate::face::*;
-use crate::plain::{self, Filter, Found, Index, No, Outcome, Position, Told};
+use crate::plain::{self, Entry, Filter, Found, Index, No, Outcome, Position, Told};
 use std::cell::RefCell;
 use std::fmt::Debug;
 
@@ -481,5 +481,22 @@ pub fn guarded(words: &mut Vec<u32>, column: &[i32], index: &Index, low: u32, hi
     };
     filter_words(call, &lent_words, words, after);
     *words = lent_words.words().to_vec();
+    answer
+}
+
+pub fn register(minutes: &[i32], space: usize) -> Result<Vec<Entry>, No> {
+    let answer = plain::register(minutes, space);
+    let lent = Space::of(minutes);
+    let mut words = Space::<u32>::stale(space);
+    let mut out = Space::<u64>::stale(3);
+    let got = unsafe { mgz_register(lent.ptr(), lent.len(), words.mut_ptr(), words.len(), out.mut_ptr()) };
+    let call = "mgz_register";
+    number(call, got, &answer);
+    lent.same(call, "minutes", minutes);
+    let entries = answer.clone().unwrap_or_default();
+    let row = answer.as_ref().err().map_or(0, |no| no.row);
+    out.same(call, "out", &[needed(&answer), entries.len() as u64, row]);
+    let front: Vec<u32> = entries.into_iter().flat_map(Entry::words).collect();
+    words.front(call, "words", &front);
     answer
 }

@@ -1,24 +1,40 @@
 //! Document 01, with what document 02 adds, said in plain Rust: slow, short, one function a sentence. Nothing here is taken from the proved
 //! code.
+use std::collections::HashMap;
 
 pub const ROWS_AT_MOST: usize = 16_777_216;
 pub const LINES_AT_MOST: u64 = 1_048_576;
 pub const ROWS_PER_LINE: usize = 16;
 pub const ROOM_AT_MOST: u32 = 4_095;
 
-/// Any answer but 0: its number, and the length needed where the number is 4 (else 0).
+/// Any answer but 0: its number, the length needed where the number is 4 (else 0), and the row where it is 13 (else 0).
 #[derive(Clone, Copy, Debug, PartialEq, Eq)]
 pub struct No {
     pub number: u32,
     pub needed: u64,
+    pub row: u64,
+}
+
+impl No {
+    pub fn of(number: u32) -> No {
+        No { number, needed: 0, row: 0 }
+    }
+
+    pub fn short(needed: usize) -> No {
+        No { needed: needed as u64, ..No::of(4) }
+    }
+
+    pub fn negative(row: usize) -> No {
+        No { row: row as u64, ..No::of(13) }
+    }
 }
 
 fn no<T>(number: u32) -> Result<T, No> {
-    Err(No { number, needed: 0 })
+    Err(No::of(number))
 }
 
 fn short<T>(needed: usize) -> Result<T, No> {
-    Err(No { number: 4, needed: needed as u64 })
+    Err(No::short(needed))
 }
 
 // ---------------------------------------------------------------- bins and line imprints
@@ -378,7 +394,7 @@ fn index_list(column: &[i32], borders: &[i32], imprints: &[u64], dictionary: &[u
         return no(5);
     }
     let lines = lines(column.len()) as u64;
-    listed(borders, imprints, dictionary, lines).ok_or(No { number: 3, needed: 0 })
+    listed(borders, imprints, dictionary, lines).ok_or(No::of(3))
 }
 
 pub fn search(
@@ -515,7 +531,7 @@ impl Filter {
 }
 
 fn meant(words: &[u32]) -> Result<Filter, No> {
-    Filter::meant(words).ok_or(No { number: 8, needed: 0 })
+    Filter::meant(words).ok_or(No::of(8))
 }
 
 fn meant_with_key(words: &[u32], key: u32) -> Result<Filter, No> {
@@ -659,4 +675,66 @@ pub fn guarded(
         },
     };
     Ok((outcome, found))
+}
+
+// ---------------------------------------------------------------- the hour register
+
+/// Document 02, request 103: one discharge hour.
+#[derive(Clone, Copy, Debug, PartialEq, Eq)]
+pub struct Entry {
+    pub hour: u32,
+    pub repeat: u32,
+    pub first_row: u32,
+    pub rows: u32,
+}
+
+impl Entry {
+    /// As it stands in a register.
+    pub fn words(self) -> [u32; 4] {
+        [self.hour, self.repeat, self.first_row, self.rows]
+    }
+}
+
+/// Of a minute that is not negative.
+pub fn hour(minute: i32) -> u32 {
+    minute as u32 / 60
+}
+
+/// Does a new entry begin at this row?
+pub fn begins(minutes: &[i32], row: usize) -> bool {
+    row == 0 || hour(minutes[row]) != hour(minutes[row - 1]) || minutes[row] < minutes[row - 1]
+}
+
+/// The rows at which an entry begins.
+pub fn first_rows(minutes: &[i32]) -> Vec<usize> {
+    (0..minutes.len()).filter(|&row| begins(minutes, row)).collect()
+}
+
+/// The entries that begin at these rows: each ends where the next begins, the last with the column.
+pub fn entries(minutes: &[i32], first_rows: &[usize]) -> Vec<Entry> {
+    let mut earlier: HashMap<u32, u32> = HashMap::new();
+    let mut entries = Vec::new();
+    for (number, &first) in first_rows.iter().enumerate() {
+        let end = first_rows.get(number + 1).copied().unwrap_or(minutes.len());
+        let hour = hour(minutes[first]);
+        let repeat = earlier.get(&hour).copied().unwrap_or(0);
+        earlier.insert(hour, repeat + 1);
+        entries.push(Entry { hour, repeat, first_row: first as u32, rows: (end - first) as u32 });
+    }
+    entries
+}
+
+/// `space`: how many words are lent.
+pub fn register(minutes: &[i32], space: usize) -> Result<Vec<Entry>, No> {
+    if ROWS_AT_MOST < minutes.len() {
+        return no(2);
+    }
+    if let Some(row) = minutes.iter().position(|&minute| minute < 0) {
+        return Err(No::negative(row));
+    }
+    let entries = entries(minutes, &first_rows(minutes));
+    if space < 4 * entries.len() {
+        return short(4 * entries.len());
+    }
+    Ok(entries)
 }

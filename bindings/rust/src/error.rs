@@ -29,6 +29,11 @@ pub enum Error {
     NothingToForget,
     /// 11: room above [`ROOM_AT_MOST`](crate::ROOM_AT_MOST).
     RoomTooLarge,
+    /// 13: a minute is negative, or a [fault](crate::FAULT).
+    NegativeMinute {
+        /// The first such row.
+        row: usize,
+    },
     /// 17: the index is said to cover more rows than the column has.
     CoveredAboveRows,
 }
@@ -52,18 +57,19 @@ impl Error {
             Error::NoRoom => 9,
             Error::NothingToForget => 10,
             Error::RoomTooLarge => 11,
+            Error::NegativeMinute { .. } => 13,
             Error::CoveredAboveRows => 17,
         }
     }
 
-    /// The answer of a call: nothing for 0, else what the number stands for.
-    pub(crate) fn check(number: u32, needed: u64) -> Result<(), Error> {
+    /// The answer of a call: nothing for 0, else what the number stands for. Beside 4 stands the length needed, beside 13 the row.
+    pub(crate) fn check(number: u32, beside: u64) -> Result<(), Error> {
         Err(match number {
             0 => return Ok(()),
             1 => Error::LowAboveHigh,
             2 => Error::ColumnTooLong,
             3 => Error::NotAnIndex,
-            4 => Error::SpaceShort { needed: needed as usize },
+            4 => Error::SpaceShort { needed: beside as usize },
             5 => Error::BadBorders,
             6 => Error::BadLevels,
             7 => Error::NoKey,
@@ -71,6 +77,7 @@ impl Error {
             9 => Error::NoRoom,
             10 => Error::NothingToForget,
             11 => Error::RoomTooLarge,
+            13 => Error::NegativeMinute { row: beside as usize },
             17 => Error::CoveredAboveRows,
             other => unreachable!("no call answers {other}"),
         })
@@ -91,6 +98,7 @@ impl fmt::Display for Error {
             Error::NoRoom => write!(f, "learning needs more splits than the filter has room for"),
             Error::NothingToForget => write!(f, "there is nothing to forget"),
             Error::RoomTooLarge => write!(f, "the room is above 4,095"),
+            Error::NegativeMinute { row } => write!(f, "the minute in row {row} is negative"),
             Error::CoveredAboveRows => write!(f, "the index covers more rows than the column has"),
         }
     }

@@ -2,9 +2,11 @@
 //!
 //! Two parts and one above them: **column imprints** ([`build`], [`append`], [`search`]: an index that says of every 16 rows which bins
 //! their values lie in, and grows as samples keep coming), an **adaptive range filter** ([`Filter`]: a memory of ranges known to be empty),
-//! and the **search with both** ([`guarded_search`]).
+//! and the **search with both** ([`guarded_search`]). Beside them, the **hour register** of a time column ([`register`]): one entry per
+//! discharge hour, through the clock change.
 //!
-//! The calls take slices and write into the caller's own spaces; [`IndexBuf`] and [`Filter::fresh`] allocate them where that is handier.
+//! The calls take slices and write into the caller's own spaces; [`IndexBuf`], [`Filter::fresh`] and [`RegisterBuf`] allocate them where
+//! that is handier.
 //! Whatever is refused, with an [`Error`], has changed nothing. Damaged words are no danger: an index or a filter that isn't one is refused.
 //!
 //! ```
@@ -22,16 +24,18 @@ mod error;
 mod face;
 mod filter;
 mod index;
+mod register;
 
 pub use error::Error;
 pub use filter::{filter_words, guarded_search, Filter, FilterState, Outcome};
 pub use index::{append, build, lines, pack, search, unpack, Counts, Found, Index, IndexBuf, Lines, Position};
+pub use register::{register, Entries, Entry, Register, RegisterBuf};
 
 /// What a dead probe sends, and no reading: a fault.
 ///
 /// [`build`] leaves faults out where it chooses borders, so a column of faults only has none. [`build`] and [`append`] put them into the
 /// first bin, whatever the borders. A fault matches no range: with the column's own index no search lists it, not even one from the smallest
-/// value up. In [`guarded_search`] it is no key.
+/// value up. In [`guarded_search`] it is no key. [`register`] refuses it, as any negative minute.
 ///
 /// ```
 /// use miguzoryane::{IndexBuf, FAULT};

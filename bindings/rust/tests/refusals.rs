@@ -119,6 +119,42 @@ fn of_the_search_with_both() {
 }
 
 #[test]
+fn of_a_register() {
+    let mut long = vec![150; ROWS_AT_MOST + 1];
+    let mut words = [77; 9];
+    long[7] = -1;
+    assert_eq!(register(&long, &mut words), Err(Error::ColumnTooLong));
+    assert_eq!(RegisterBuf::of(&long), Err(Error::ColumnTooLong));
+    assert_eq!(register(&long[..8], &mut []), Err(Error::NegativeMinute { row: 7 }));
+    assert_eq!(register(&[FAULT, -1], &mut words), Err(Error::NegativeMinute { row: 0 }));
+    assert_eq!(RegisterBuf::of(&[0, 60, -60, FAULT]), Err(Error::NegativeMinute { row: 2 }));
+    assert_eq!(register(&[0, 60], &mut words[..7]), Err(Error::SpaceShort { needed: 8 }));
+    assert_eq!(words, [77; 9]);
+    let hours = register(&[0, 60], &mut words).unwrap();
+    assert_eq!(hours.words(), [0, 0, 0, 1, 1, 0, 1, 1]);
+    assert_eq!(words[8], 77);
+}
+
+/// Every way to its entries gives the same ones; a register of its own is as long as they are.
+#[test]
+fn of_a_registers_entries() {
+    let minutes: Vec<i32> = (0..200).chain(140..300).collect();
+    let own = RegisterBuf::of(&minutes).unwrap();
+    let mut words = vec![0; Entry::WORDS * minutes.len()];
+    let hours = register(&minutes, &mut words).unwrap();
+    assert_eq!(own.as_register(), hours);
+    assert_eq!((hours.len(), hours.words().len()), (7, 28));
+    let entries: Vec<Entry> = hours.into_iter().collect();
+    assert_eq!(entries[4], Entry { hour: 2, repeat: 1, first_row: 200, rows: 40 });
+    assert!(entries.iter().copied().eq((0..7).map(|number| hours.entry(number).unwrap())));
+    assert_eq!(hours.entry(7), None);
+    assert!(entries.iter().flat_map(Entry::range).eq(0..minutes.len()));
+    let none = RegisterBuf::of(&[]).unwrap();
+    assert!(none.as_register().is_empty());
+    assert_eq!(none.as_register().entry(0), None);
+}
+
+#[test]
 fn numbers() {
     let all = [
         Error::LowAboveHigh,
@@ -133,7 +169,7 @@ fn numbers() {
         Error::NothingToForget,
         Error::RoomTooLarge,
     ];
-    for (error, number) in all.into_iter().zip(1..).chain([(Error::CoveredAboveRows, 17)]) {
+    for (error, number) in all.into_iter().zip(1..).chain([(Error::NegativeMinute { row: 1 }, 13), (Error::CoveredAboveRows, 17)]) {
         assert_eq!(error.number(), number);
         assert!(!error.to_string().is_empty());
     }

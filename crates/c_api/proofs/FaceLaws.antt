@@ -13,10 +13,13 @@ use Rattle.column_index.specs.declared.SearchAnswer.{SearchAnswer}
 use Rattle.column_index.proofs.PromiseLaws.{builds-only, builds-keeps, appends-only, appends-keeps, packs-only, packs-keeps, unpacks-only, unpacks-keeps, searches-only, searches-keeps}
 use Rattle.range_filter.specs.Promise.{madeNumber, madeBeside, askedNumber, askedBeside, learntNumber, arrivedNumber, departedNumber, forgotNumber, readingNumber, readingBeside}
 use Rattle.range_filter.proofs.Only.{fresh-only, fresh-refused, ask-only, learn-only, learn-refused, arrive-only, arrive-refused, depart-only, forget-only, forget-refused, read-only}
+use Rattle.hour_register.specs.Promise.{register-number, register-beside}
+use Rattle.hour_register.specs.declared.RegisterAnswer.{RegisterAnswer}
+use Rattle.hour_register.proofs.PromiseLaws.{registers-only, registers-keeps}
 use Rattle.guarded_search.specs.Promise.{guard-number, guard-beside}
 use Rattle.guarded_search.proofs.Only.{guards-only, guards-refused}
 use Rattle.answers.specs.Beside.{unpack-needed}
-use Rattle.c_api.specs.Promise.{BuildFace, AppendFace, PackFace, UnpackFace, StepFace, SearchFace, FreshFace, AskFace, LearnFace, ArriveFace, DepartFace, ForgetFace, ReadFace, GuardFace}
+use Rattle.c_api.specs.Promise.{BuildFace, AppendFace, PackFace, UnpackFace, StepFace, SearchFace, FreshFace, AskFace, LearnFace, ArriveFace, DepartFace, ForgetFace, ReadFace, GuardFace, RegisterFace}
 
 -- what is said of one answer by one function is one thing
 one : {A B : Type 0} (f : A → B) {r s : A} {m n : B} → r ≡ s → m ≡ f r → n ≡ f s → m ≡ n
@@ -133,3 +136,14 @@ module _ {w : List ℕ} {col bs : List ℤ} {is ds : List ℕ} {lo hi : ℕ} {ro
 
   pub guard-keeps : {n : ℕ} {w₁ r₁ o₁ : List ℕ} → GuardFace w col bs is ds lo hi rows n w₁ r₁ o₁ → (n ≡ 0 → ⊥) → (w₁ ≡ w) × (r₁ ≡ rows)
   guard-keeps p ne = guards-refused (p .guards) (λ z. ne (p .number ∙ z))
+
+-- ---- the hour register
+
+module _ {col : List ℤ} {ws : List ℕ} where
+  pub register-only : {m n : ℕ} {w₁ w₂ o₁ o₂ : List ℕ} → RegisterFace col ws m w₁ o₁ → RegisterFace col ws n w₂ o₂ → (m ≡ n) × (w₁ ≡ w₂) × (o₁ ≡ o₂)
+  register-only p q =
+      let e = registers-only (p .registers) (q .registers) in
+      (one (λ (a : RegisterAnswer). numbered (register-number a)) (e .0) (p .number) (q .number), e .1, one register-beside (e .0) (p .words) (q .words))
+
+  pub register-keeps : {n : ℕ} {w₁ o₁ : List ℕ} → RegisterFace col ws n w₁ o₁ → (n ≡ 0 → ⊥) → w₁ ≡ ws
+  register-keeps p ne = registers-keeps (p .registers) (λ z. ne (p .number ∙ z))

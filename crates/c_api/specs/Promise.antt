@@ -21,6 +21,8 @@ use Rattle.range_filter.specs.declared.Departed.{Departed}
 use Rattle.range_filter.specs.declared.Forgot.{Forgot}
 use Rattle.range_filter.specs.declared.Reading.{Reading}
 use Rattle.answers.specs.Beside.{unpack-needed, step-number, step-beside}
+use Rattle.hour_register.specs.Promise.{Registers, register-number, register-beside}
+use Rattle.hour_register.specs.declared.RegisterAnswer.{RegisterAnswer}
 use Rattle.guarded_search.specs.Promise.{Guards, guard-number, guard-beside}
 use Rattle.guarded_search.specs.declared.GuardAnswer.{GuardAnswer}
 
@@ -117,3 +119,12 @@ pub record GuardFace (w : List ℕ) (col bs : List ℤ) (is ds : List ℕ) (lo h
   pub guards : Guards w col bs is ds lo hi rows answer w′ rows′
   pub number : n ≡ guard-number answer
   pub words : out′ ≡ guard-beside answer
+
+-- ---- the hour register
+
+-- beside the number: needed, entries, row
+pub record RegisterFace (col : List ℤ) (ws : List ℕ) (n : ℕ) (ws′ out′ : List ℕ) : Type 0 where
+  pub answer : RegisterAnswer
+  pub registers : Registers col ws answer ws′
+  pub number : n ≡ numbered (register-number answer)
+  pub words : out′ ≡ register-beside answer

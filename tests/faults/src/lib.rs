@@ -5,7 +5,8 @@
 #[allow(dead_code)]
 #[path = "../../src/plain.rs"]
 mod plain;
-use plain::{Filter, Found, Index, No, Outcome, Position, Told};
+use plain::{Entry, Filter, Found, Index, No, Outcome, Position, Told};
+use std::collections::HashMap;
 use std::slice::{from_raw_parts, from_raw_parts_mut};
 use std::sync::OnceLock;
 
@@ -89,7 +90,7 @@ pub unsafe extern "C" fn mgz_build(
     if fault("short-dictionary-first") && number(&answer) == 4 {
         let index = plain::index(column);
         if d < index.dictionary.len() {
-            answer = Err(No { number: 4, needed: index.dictionary.len() as u64 });
+            answer = Err(No::short(index.dictionary.len()));
         }
     }
     *out.first_chunk_mut().unwrap() = [needed(&answer), 0, 0, 0];
@@ -112,7 +113,7 @@ pub unsafe extern "C" fn mgz_build(
 fn appended(column: &[i32], covered: u64, index: &Told) -> Result<Index, No> {
     let beyond = (index.imprints.len() as u64) < index.imprints_told || (index.dictionary.len() as u64) < index.dictionary_told;
     if fault("told-before-borders") && beyond && column.len() <= plain::ROWS_AT_MOST && covered <= column.len() as u64 {
-        return Err(No { number: 3, needed: 0 });
+        return Err(No::of(3));
     }
     let filled = covered.checked_next_multiple_of(16).filter(|&rows| rows <= column.len() as u64);
     let covered = if fault("short-line-trusted") { filled.unwrap_or(covered) } else { covered };
@@ -125,7 +126,7 @@ fn appended(column: &[i32], covered: u64, index: &Told) -> Result<Index, No> {
         after.imprints.truncate(index.imprints.len());
         after.dictionary.truncate(index.dictionary.len());
     }
-    if let (true, Err(No { number: 4, needed })) = (fault("append-needs-the-additional"), &mut answer) {
+    if let (true, Err(No { number: 4, needed, .. })) = (fault("append-needs-the-additional"), &mut answer) {
         let imprints_short = (index.imprints.len() as u64) < *needed;
         *needed -= (if imprints_short { index.imprints_told } else { index.dictionary_told }).min(*needed);
     }
@@ -250,7 +251,7 @@ fn masks(borders: &[i32], low: i32, high: i32) -> (u64, u64) {
 
 fn searched(column: &[i32], borders: &[i32], imprints: &[u64], dictionary: &[u32], low: i32, high: i32, space: usize) -> Result<Found, No> {
     if fault("low-above-high-first") && high < low && column.len() <= plain::ROWS_AT_MOST {
-        return Err(No { number: 1, needed: 0 });
+        return Err(No::of(1));
     }
     let dictionary = lax(dictionary);
     plain::search(column, borders, imprints, &dictionary, low, high, usize::MAX)?;
@@ -261,7 +262,7 @@ fn searched(column: &[i32], borders: &[i32], imprints: &[u64], dictionary: &[u32
         found.ids.retain(|&row| !plain::fault(column[row as usize]));
     }
     if space < found.ids.len() {
-        return Err(No { number: 4, needed: found.ids.len() as u64 });
+        return Err(No::short(found.ids.len()));
     }
     if fault("high-left-out") {
         let before = found.ids.len();
@@ -336,7 +337,7 @@ fn store(words: &mut [u32], answer: &Result<Filter, No>) -> u32 {
 pub unsafe extern "C" fn mgz_filter_fresh(levels: u32, room: u32, words: *mut u32, w: usize, out: *mut u64) -> u32 {
     let mut answer = plain::fresh(levels, room, w);
     if fault("fresh-11-before-6") && 4095 < room {
-        answer = Err(No { number: 11, needed: 0 });
+        answer = Err(No::of(11));
     }
     unsafe { *out = needed(&answer) };
     store(unsafe { lent(words, w) }, &answer)
@@ -451,7 +452,7 @@ pub unsafe extern "C" fn mgz_guarded_search(
         answer = Ok((learnt.map_or(Outcome::EmptyNotLearnt, Outcome::EmptyLearnt), found.clone()));
     }
     if fault("denied-with-4") && m == 0 && number(&answer) == 0 && answer.as_ref().unwrap().0 == Outcome::Denied {
-        answer = Err(No { number: 4, needed: 0 });
+        answer = Err(No::of(4));
     }
     let (outcome, found) = answer.clone().unwrap_or((Outcome::Denied, Found::default()));
     out.copy_from_slice(&[outcome.number(), needed(&answer), found.ids.len() as u64, found.skipped, found.whole, found.compared]);
@@ -459,5 +460,98 @@ pub unsafe extern "C" fn mgz_guarded_search(
     if let Outcome::EmptyLearnt(filter) = outcome {
         store(words, &Ok(filter));
     }
+    number(&answer)
+}
+
+fn begins(minutes: &[i32], row: usize) -> bool {
+    let before = row.checked_sub(1).map(|before| minutes[before]);
+    if fault("equal-minutes-part") && before == Some(minutes[row]) {
+        return true;
+    }
+    if fault("fall-within-the-hour-stays") && before.map(plain::hour) == Some(plain::hour(minutes[row])) {
+        return false;
+    }
+    plain::begins(minutes, row)
+}
+
+/// Each repeat number is how much came before under the entry's key.
+fn repeats(entries: &mut [Entry], key: impl Fn(&Entry) -> u32, much: impl Fn(&Entry) -> u32) {
+    let mut before: HashMap<u32, u32> = HashMap::new();
+    for entry in entries {
+        let sum = before.entry(key(entry)).or_insert(0);
+        entry.repeat = *sum;
+        *sum += much(entry);
+    }
+}
+
+fn wrong_repeats(entries: &mut [Entry]) {
+    if fault("repeat-counts-rows") {
+        repeats(entries, |entry| entry.hour, |entry| entry.rows);
+    }
+    if fault("repeat-of-24-bit-hours") {
+        repeats(entries, |entry| entry.hour & 0xFF_FFFF, |_| 1);
+    }
+    if fault("repeat-of-neighbours") {
+        for at in 0..entries.len() {
+            entries[at].repeat = if 0 < at && entries[at - 1].hour == entries[at].hour { entries[at - 1].repeat + 1 } else { 0 };
+        }
+    }
+    if fault("late-hour-is-a-repeat") {
+        let mut highest = 0;
+        for entry in entries {
+            highest = highest.max(entry.hour);
+            entry.repeat = entry.repeat.max((entry.hour < highest) as u32);
+        }
+    }
+}
+
+fn first_negative(minutes: &[i32]) -> Option<usize> {
+    if fault("last-negative-row") {
+        return minutes.iter().rposition(|&minute| minute < 0);
+    }
+    if fault("dead-minute-passes") {
+        return minutes.iter().position(|&minute| minute < 0 && !plain::fault(minute));
+    }
+    minutes.iter().position(|&minute| minute < 0)
+}
+
+fn registered(minutes: &[i32], space: usize) -> Result<Vec<Entry>, No> {
+    let negative = first_negative(minutes).map(No::negative);
+    if let (true, Some(no)) = (fault("register-13-before-2"), negative) {
+        return Err(no);
+    }
+    if plain::ROWS_AT_MOST < minutes.len() {
+        return Err(No::of(2));
+    }
+    let first_rows: Vec<usize> = (0..minutes.len()).filter(|&row| begins(minutes, row)).collect();
+    let mut entries = plain::entries(minutes, &first_rows);
+    wrong_repeats(&mut entries);
+    if fault("last-hour-lost") {
+        entries.pop();
+    }
+    if let (true, Some(last)) = (fault("last-row-not-counted"), entries.last_mut()) {
+        last.rows -= 1;
+    }
+    let short = (space < 4 * entries.len()).then(|| No::short(4 * entries.len()));
+    let refusal = if fault("register-4-before-13") { short.or(negative) } else { negative.or(short) };
+    refusal.map_or(Ok(entries), Err)
+}
+
+#[no_mangle]
+pub unsafe extern "C" fn mgz_register(minutes: *const i32, n: usize, words: *mut u32, w: usize, out: *mut u64) -> u32 {
+    let (minutes, words, out) = unsafe { (read(minutes, n), lent(words, w), lent(out, 3)) };
+    let answer = registered(minutes, w);
+    let entries = answer.clone().unwrap_or_default();
+    out.copy_from_slice(&[needed(&answer), entries.len() as u64, answer.as_ref().err().map_or(0, |no| no.row)]);
+    if fault("register-needs-entries") {
+        out[0] /= 4;
+    }
+    if fault("register-writes-before-4") && number(&answer) == 4 && w != 0 {
+        words[0] = plain::hour(minutes[0]);
+    }
+    if fault("register-clears-behind") && answer.is_ok() {
+        words[4 * entries.len()..].fill(0);
+    }
+    put(words, &entries.into_iter().flat_map(Entry::words).collect::<Vec<u32>>());
     number(&answer)
 }
