@@ -2,7 +2,7 @@
 use Prim.Native.Nat.{ℕ, suc, _+_, _-_, _*_, _%_, _<_, _≤_}
 use mathlib.Core.Path.{_≡_, refl, sym, _∙_, ap, subst}
 use mathlib.Core.List.{List, [], map}
-use mathlib.Core.Bool.{Bool, true, false, cond, _&&_}
+use mathlib.Core.Bool.{Bool, true, false, cond, _&&_, and-eq-true-iff}
 use native.Mathlib.Omega.{arith}
 use lib.Dec.{eqb, leb, ltb}
 use lib.IntN.{ℤ}
@@ -14,9 +14,11 @@ use mir.ValLaws.{toZ-pos, toZ-neg, toZ-fits}
 use borrow.Author.Tests.{lt-ltb, le-ltb, le-leb, lt-leb, eq-eqb, ne-eqb, leb-true, ltb-true, ltb-false}
 use Rattle.words.specs.Lists.{from, filled}
 use Rattle.words.proofs.ListLaws.{length-from, sets-filled, take-filled}
-use Rattle.range_input.specs.Input.{signed, bits-at, value-at, rows-of, column-of, readable, input-of, column-after, low-of, high-of, Decodes}
+use Rattle.range_input.specs.Input.{signed, bits-at, value-at, values-from, rows-of, column-of, readable, input-of, column-after, low-of, high-of, Decodes, minute-count, minutes-of, minutes-readable, minutes-input, minutes-after, Decodes-minutes}
 use Rattle.range_input.specs.declared.Input.{Input}
 use Rattle.range_input.specs.declared.Input.the-variants.{Unreadable, Range}
+use Rattle.range_input.specs.declared.Minutes.{Minutes}
+use Rattle.range_input.specs.declared.Minutes.the-variants as alone
 
 -- ---- signed numbers
 
@@ -33,24 +35,33 @@ signed-neg x h l =
 
 -- ---- values, one after the other
 
-module _ (f : ℕ → ℤ) (col all : List ℤ) (i n : ℕ) where
-  pub fill-next : i < n → sets col i (map f (from (i + 2) (n - i))) ≡ all → sets (set col i (f (i + 2))) (i + 1) (map f (from (i + 1 + 2) (n - (i + 1)))) ≡ all
+module _ (f : ℕ → ℤ) (skip : ℕ) (col all : List ℤ) (i n : ℕ) where
+  pub fill-next : i < n → sets col i (map f (from (skip + i) (n - i))) ≡ all → sets (set col i (f (skip + i))) (i + 1) (map f (from (skip + (i + 1)) (n - (i + 1)))) ≡ all
   fill-next h e =
       let p : n - i ≡ suc (n - (i + 1)) = omega arith in
       let q : i + 1 ≡ suc i = omega arith in
-      let q2 : i + 1 + 2 ≡ suc (i + 2) = omega arith in
-      (λ j. sets (set col i (f (i + 2))) (q j) (map f (from (q2 j) (n - (i + 1))))) ∙ sym (ap (λ (k : ℕ). sets col i (map f (from (i + 2) k))) p) ∙ e
+      let q2 : skip + (i + 1) ≡ suc (skip + i) = omega arith in
+      (λ j. sets (set col i (f (skip + i))) (q j) (map f (from (q2 j) (n - (i + 1))))) ∙ sym (ap (λ (k : ℕ). sets col i (map f (from (skip + i) k))) p) ∙ e
 
-  pub fill-ends : n ≤ i → sets col i (map f (from (i + 2) (n - i))) ≡ all → col ≡ all
-  fill-ends h e = let p : n - i ≡ 0 = omega arith in sym (ap (λ (k : ℕ). sets col i (map f (from (i + 2) k))) p) ∙ e
+  pub fill-ends : n ≤ i → sets col i (map f (from (skip + i) (n - i))) ≡ all → col ≡ all
+  fill-ends h e = let p : n - i ≡ 0 = omega arith in sym (ap (λ (k : ℕ). sets col i (map f (from (skip + i) k))) p) ∙ e
 
-pub fill-starts : (s : List ℕ) (col : List ℤ) (n : ℕ) → n ≡ rows-of s → sets col 0 (map (value-at s) (from 2 (n - 0))) ≡ sets col 0 (column-of s)
-unfolding column-of
-fill-starts s col n e = let p : n - 0 ≡ rows-of s = omega arith in ap (λ (k : ℕ). sets col 0 (map (value-at s) (from 2 k))) p
+pub fill-starts : (f : ℕ → ℤ) (skip : ℕ) (col : List ℤ) (n : ℕ) → sets col 0 (map f (from (skip + 0) (n - 0))) ≡ sets col 0 (map f (from skip n))
+fill-starts f skip col n =
+    let p : n - 0 ≡ n = omega arith in
+    let q : skip + 0 ≡ skip = omega arith in
+    λ j. sets col 0 (map f (from (q j) (p j)))
+
+values-length : (s : List ℕ) (skip n : ℕ) → length (values-from s skip n) ≡ n
+values-length s skip n = length-map (from skip n) (value-at s) ∙ length-from n skip
 
 pub column-length : (s : List ℕ) → length (column-of s) ≡ rows-of s
 unfolding column-of
-column-length s = length-map (from 2 (rows-of s)) (value-at s) ∙ length-from (rows-of s) 2
+column-length s = values-length s 2 (rows-of s)
+
+pub minutes-length : (s : List ℕ) → length (minutes-of s) ≡ minute-count s
+unfolding minutes-of
+minutes-length s = values-length s 0 (minute-count s)
 
 -- ---- which inputs are readable
 
@@ -81,13 +92,38 @@ module _ (s : List ℕ) where
     unfolding input-of column-after
     not-read e = record { answers = rw e; column-is = rw e }
 
-    pub is-read : readable s ≡ true → (low high : ℤ) (n : ℕ) (col′ : List ℤ) → low ≡ low-of s → high ≡ high-of s → n ≡ rows-of s → n ≤ length col → col′ ≡ sets col 0 (column-of s) → Decodes s col (Range low high n) col′
-    unfolding input-of column-after
+    pub is-read : readable s ≡ true → (low high : ℤ) (n : ℕ) (col′ : List ℤ) → low ≡ low-of s → high ≡ high-of s → n ≡ rows-of s → n ≤ length col → col′ ≡ sets col 0 (values-from s 2 n) → Decodes s col (Range low high n) col′
+    unfolding input-of column-after column-of
     is-read e low high n col′ l h m r c =
         record {
           answers = rw e (λ j. Range (l j) (h j) (m j));
-          column-is = rw e (c ∙ sets-filled (column-of s) col (omega (arith, column-length s)));
+          column-is = rw e (c ∙ ap (λ (k : ℕ). sets col 0 (values-from s 2 k)) m ∙ sets-filled (column-of s) col (omega (arith, column-length s)));
         }
+
+-- ---- without low and high
+
+module _ (s : List ℕ) where
+  pub minutes-no-fours : (length s % 4 ≡ 0 → ⊥) → minutes-readable s ≡ false
+  minutes-no-fours h = rw (ne-eqb (length s % 4) 0 h)
+
+  pub minutes-too-many : 8192 < minute-count s → minutes-readable s ≡ false
+  minutes-too-many h = go (eqb (length s % 4) 0) (lt-leb (minute-count s) 8192 h)
+    where
+      go : (b : Bool) → leb (minute-count s) 8192 ≡ false → (b && leb (minute-count s) 8192) ≡ false
+      go true e = e
+      go false e = refl
+
+  pub minutes-can-read : length s % 4 ≡ 0 → minute-count s ≤ 8192 → minutes-readable s ≡ true
+  minutes-can-read a b = rw (eq-eqb (length s % 4) 0 a, le-leb (minute-count s) 8192 b)
+
+  module _ (col : List ℤ) where
+    pub minutes-not-read : minutes-readable s ≡ false → Decodes-minutes s col alone.Unreadable col
+    unfolding minutes-input minutes-after
+    minutes-not-read e = record { answers = rw e; column-is = rw e }
+
+    pub minutes-is-read : minutes-readable s ≡ true → (col′ : List ℤ) → minute-count s ≤ length col → col′ ≡ sets col 0 (values-from s 0 (minute-count s)) → Decodes-minutes s col (alone.Rows (minute-count s)) col′
+    unfolding minutes-input minutes-after minutes-of
+    minutes-is-read e col′ r c = record { answers = rw e; column-is = rw e (c ∙ sets-filled (minutes-of s) col (omega (arith, minutes-length s))) }
 
 -- ---- what the decoding's promise comes to
 
@@ -126,6 +162,36 @@ module _ {s : List ℕ} {col : List ℤ} {r : Input} {col′ : List ℤ} (p : De
     column-read =
         let f : col′ ≡ filled (column-of s) col = rw (was-read .0) at (p .column-is) in
         (λ j. take ((was-read .3 ∙ sym (column-length s)) j) (f j)) ∙ take-filled (column-of s) col
+
+cases-rows : (o : Bool) (r : Minutes) (a n : ℕ) → r ≡ cond o (alone.Rows a) alone.Unreadable → r ≡ alone.Rows n → (o ≡ true) × (n ≡ a)
+cases-rows true r a n p q = (refl, (cc))
+cases-rows false r a n p q = let z : _≡_ {A = ℕ} 0 1 = cc in absurd (omega arith)
+
+cases-no-rows : (o : Bool) (r : Minutes) (a : ℕ) → r ≡ cond o (alone.Rows a) alone.Unreadable → r ≡ alone.Unreadable → o ≡ false
+cases-no-rows true r a p q = let z : _≡_ {A = ℕ} 0 1 = cc in absurd (omega arith)
+cases-no-rows false r a p q = refl
+
+pub minutes-readable-few : (s : List ℕ) → minutes-readable s ≡ true → minute-count s ≤ 8192
+minutes-readable-few s e = leb-true (minute-count s) 8192 (and-eq-true-iff (eqb (length s % 4) 0) (leb (minute-count s) 8192) .0 e .1)
+
+module _ {s : List ℕ} {col : List ℤ} {r : Minutes} {col′ : List ℤ} (p : Decodes-minutes s col r col′) where
+  pub minutes-unread : r ≡ alone.Unreadable → minutes-readable s ≡ false
+  unfolding minutes-input
+  minutes-unread e = cases-no-rows (minutes-readable s) r (minute-count s) (p .answers) e
+
+  module _ (n : ℕ) (e : r ≡ alone.Rows n) where
+    pub minutes-read : (minutes-readable s ≡ true) × (n ≡ minute-count s)
+    unfolding minutes-input
+    minutes-read = cases-rows (minutes-readable s) r (minute-count s) n (p .answers) e
+
+    pub minutes-few : n ≤ 8192
+    minutes-few = omega (arith, minutes-read .1, minutes-readable-few s (minutes-read .0))
+
+    pub minutes-front : take n col′ ≡ minutes-of s
+    unfolding minutes-after
+    minutes-front =
+        let f : col′ ≡ filled (minutes-of s) col = rw (minutes-read .0) at (p .column-is) in
+        (λ j. take ((minutes-read .1 ∙ sym (minutes-length s)) j) (f j)) ∙ take-filled (minutes-of s) col
 
 -- ---- values are numbers of 32 bits
 

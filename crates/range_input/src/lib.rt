@@ -1,14 +1,20 @@
-// The program's input: from bytes to a range and a column.
+// The programs' input: from bytes to a column, behind a range or alone.
 ghost use mathlib.Core.Path.{_≡_};
 ghost use Prim.Native.Nat.{_+_, _*_, _<_, _≤_};
 ghost use lib.ListN.{length};
 ghost use lib.Seq.{sets};
-ghost use Rattle.range_input.specs.Input.{signed as number, bits-at, value-at as value, column-of, rows-of, Decodes};
+ghost use Rattle.range_input.specs.Input.{signed as number, bits-at, value-at as value, values-from, Decodes, Decodes-minutes};
 
 // What an input is.
 pub enum Input {
     Unreadable,
     Range { low: i32, high: i32, rows: usize },
+}
+
+// What an input without low and high is.
+pub enum Minutes {
+    Unreadable,
+    Rows(usize),
 }
 
 // A signed number of its 32 bits.
@@ -48,14 +54,14 @@ fn value_at(input: &[u8], i: usize) -> i32
     signed(bits_at(input, i))
 }
 
-// The values after the first two, at the front of column.
-fn fill(input: &[u8], rows: usize, column: &mut [i32])
-    requires { ⌜ (4 * (rows + 2) ≤ length (now input)) × (rows ≤ length (now column)) × (rows ≡ rows-of (now input)) ⌝ }
-    ensures { λ _. ⌜ now (column .exit) ≡ sets (now (column .entry)) 0 (column-of (now (input .entry))) ⌝ }
+// So many values after the skipped ones, at the front of column.
+fn fill(input: &[u8], skip: usize, rows: usize, column: &mut [i32])
+    requires { ⌜ (4 * (skip + rows) ≤ length (now input)) × (rows ≤ length (now column)) ⌝ }
+    ensures { λ _. ⌜ now (column .exit) ≡ sets (now (column .entry)) 0 (values-from (now (input .entry)) skip rows) ⌝ }
 {
     let mut i: usize = 0;
     while i < rows {
-        column[i] = value_at(input, i + 2);
+        column[i] = value_at(input, skip + i);
         i += 1;
     }
 }
@@ -76,10 +82,27 @@ pub fn decode(input: &[u8], column: &mut [i32]) -> Input
     if 8192 < rows {
         return Input::Unreadable;
     }
-    fill(input, rows, &mut *column);
+    fill(input, 2, rows, &mut *column);
     Input::Range {
         low: value_at(input, 0),
         high: value_at(input, 1),
         rows,
     }
+}
+
+// The number of values, which go to the front of column: no bytes are no rows.
+pub fn decode_minutes(input: &[u8], column: &mut [i32]) -> Minutes
+    requires { ⌜ 8192 ≤ length (now column) ⌝ }
+    ensures { λ r. ⌜ Decodes-minutes (now (input .entry)) (now (column .entry)) r (now (column .exit)) ⌝ }
+{
+    let n = input.len();
+    if n % 4 != 0 {
+        return Minutes::Unreadable;
+    }
+    let count = n / 4;
+    if 8192 < count {
+        return Minutes::Unreadable;
+    }
+    fill(input, 0, count, column);
+    Minutes::Rows(count)
 }

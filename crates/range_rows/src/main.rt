@@ -1,11 +1,7 @@
 // The program of document 01: low, high and a column on standard input, the rows of the range on standard output.
+use decimal_text::front;
 use libc::STDIN_FILENO;
 use libc::STDOUT_FILENO;
-
-// The first n bytes of what is lent, or all of it.
-fn front(s: &[u8], n: usize) -> &[u8] {
-    if n <= s.len() { &s[..n] } else { s }
-}
 
 // One byte more than the longest input, so that a longer one is seen.
 fn main() {

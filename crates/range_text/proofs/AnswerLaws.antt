@@ -12,6 +12,9 @@ use borrow.Author.Tests.{le-ltb, le-leb}
 use Rattle.words.specs.Lists.{ceil, after}
 use Rattle.words.specs.Numbers.{numbered, most-rows}
 use Rattle.words.proofs.ListLaws.{take-filled}
+use Rattle.decimal_text.specs.loops.Puts.{Room}
+use Rattle.decimal_text.specs.Text.{refused-line}
+use Rattle.decimal_text.proofs.DecimalLaws.{refused-short}
 use Rattle.bins.specs.Bins.{readings, borders, good-borders, rising}
 use Rattle.bins.proofs.BorderLaws.{borders-count, borders-rising}
 use Rattle.dictionary.specs.Dictionary.{unpack}
@@ -26,9 +29,8 @@ use Rattle.column_index.proofs.BuiltLaws.{built-accepted}
 use Rattle.column_index.proofs.ColumnLaws.{column-imps-short, column-dict-short}
 use Rattle.run_search.proofs.RowsLaws.{search-rises}
 use Rattle.column_index.proofs.MadeLaws.{Built-all, builds-all}
-use Rattle.range_text.specs.loops.Puts.{Room}
-use Rattle.range_text.specs.Text.{found-in, found-text, range-text, refused-line}
-use Rattle.range_text.proofs.LengthLaws.{rises-count, rises-below, search-counts, found-short, refused-short}
+use Rattle.range_text.specs.Text.{found-in, found-text, range-text}
+use Rattle.range_text.proofs.LengthLaws.{rises-count, rises-below, search-counts, found-short}
 
 -- ---- build
 
@@ -54,10 +56,10 @@ module _ (col : List ℤ) (low high : ℤ) (few : length col ≤ 8192) where
   ids-few : length (found-in col low high .ids) ≤ 8192
   ids-few = omega (arith, rises-count 0 (length col) (found-in col low high .ids) (search-rises readings low high (lit< tt) (borders readings col) (unpack (built readings col .dict) (built readings col .imps)) col))
 
-  pub ids-below : (k : ℕ) → getD (found-in col low high .ids) k 0 < 10000
+  ids-below : (k : ℕ) → getD (found-in col low high .ids) k 0 < 10000
   ids-below = rises-below 0 (length col) (found-in col low high .ids) (search-rises readings low high (lit< tt) (borders readings col) (unpack (built readings col .dict) (built readings col .imps)) col) (omega arith)
 
-  pub six-below : (length col < 10000) × (line-count readings col < 10000) × (length (borders readings col) < 10000) × (found-in col low high .wholes < 10000) × (found-in col low high .compares < 10000) × (found-in col low high .skips < 10000)
+  six-below : (length col < 10000) × (line-count readings col < 10000) × (length (borders readings col) < 10000) × (found-in col low high .wholes < 10000) × (found-in col low high .compares < 10000) × (found-in col low high .skips < 10000)
   six-below =
       let c = search-counts (borders readings col) (unpack (built readings col .dict) (built readings col .imps)) col low high in
       let l = lines-few (length col) few in
@@ -114,12 +116,6 @@ module _ {col bs : List ℤ} {is ds : List ℕ} {low high low′ high′ : ℤ} 
 
     pub count-few : n ≤ 8192
     count-few = omega (arith, parts .1, ids-few col low high few)
-
-    pub all-below : (i : ℕ) → getD (take n rows′) i 0 < 10000
-    all-below i = rw front-is (ids-below col low high few i)
-
-    pub five-numbers : (length col < 10000) × (length bs < 10000) × (w < 10000) × (k < 10000) × (s < 10000)
-    five-numbers = let b = six-below col low high few in (b .0, omega (arith, b .2, ap length eb), omega (arith, b .3, parts .3), omega (arith, b .4, parts .4), omega (arith, b .5, parts .2))
 
     pub text-is : found-text (length col) (ceil (length col) 16) (length bs) w k s (take n rows′) ≡ range-text col low high
     unfolding range-text

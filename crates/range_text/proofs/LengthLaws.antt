@@ -7,13 +7,14 @@ use lib.ListN.{length, getD, length-append}
 use lib.IntN.{ℤ}
 use Rattle.words.specs.Lists.{joined, ceil}
 use Rattle.words.proofs.ListLaws.{pieces-count, joined-pieces}
+use Rattle.decimal_text.specs.Text.{labelled}
+use Rattle.decimal_text.proofs.DecimalLaws.{labelled-short, ended-short}
 use Rattle.bins.specs.Bins.{Kind, readings, lines}
 use Rattle.bins.specs.declared.Fate.{Fate}
 use Rattle.bins.specs.declared.Fate.the-variants.{Skipped, Whole, Compared}
 use Rattle.run_search.specs.Search.{over, with-line, search, fates}
 use Rattle.run_search.specs.Listed.{Rises}
-use Rattle.range_text.specs.Text.{decimal, labelled, three, row-line, row-lines, refused-line, refused-word, found-text, rows-word, lines-word, borders-word, whole-word, compared-word, skipped-word}
-use Rattle.range_text.proofs.DecimalLaws.{decimal-short}
+use Rattle.range_text.specs.Text.{three, row-line, row-lines, found-text, rows-word, lines-word, borders-word, whole-word, compared-word, skipped-word}
 
 -- ---- rising rows
 
@@ -47,28 +48,20 @@ search-counts bs ws col low high =
 
 -- ---- lengths
 
-labelled-short : (w : List ℕ) (n : ℕ) → n < 10000 → length (labelled w n) ≤ length w + 4
-unfolding labelled
-labelled-short w n h = omega (arith, length-append w (decimal n), decimal-short n h)
-
 three-short : (a : List ℕ) (x : ℕ) (b : List ℕ) (y : ℕ) (c : List ℕ) (z : ℕ) → x < 10000 → y < 10000 → z < 10000 → length (three a x b y c z) ≤ length a + length b + length c + 13
 unfolding three
 three-short a x b y c z hx hy hz =
     let u = labelled a x in
     let v = labelled b y in
     let w = labelled c z in
-    omega (arith, length-append (u ++ v ++ w) (10 ∷ []), length-append (u ++ v) w, length-append u v, labelled-short a x hx, labelled-short b y hy, labelled-short c z hz)
-
-pub refused-short : (n : ℕ) → n < 10000 → length (refused-line n) ≤ 13
-unfolding refused-line
-refused-short n h = omega (arith, length-append (labelled refused-word n) (10 ∷ []), labelled-short refused-word n h)
+    omega (arith, length-append (u ++ v ++ w) (10 ∷ []), length-append (u ++ v) w, length-append u v, labelled-short 3 (omega arith) x hx a, labelled-short 3 (omega arith) y hy b, labelled-short 3 (omega arith) z hz c)
 
 rows-short : (ids : List ℕ) → ((k : ℕ) → getD ids k 0 < 10000) → length (row-lines ids) ≤ 5 * length ids
 unfolding row-lines row-line
 rows-short [] h = omega arith
 rows-short (x ∷ xs) h =
     let r = rows-short xs (λ k. h (suc k)) in
-    omega (arith, length-append (row-line x) (row-lines xs), length-append (decimal x) (10 ∷ []), decimal-short x (h 0))
+    omega (arith, length-append (row-line x) (row-lines xs), ended-short 3 (omega arith) x (h 0) 10)
 
 pub found-short : (rows lines bs whole compared skipped : ℕ) (ids : List ℕ) → (rows < 10000) × (lines < 10000) × (bs < 10000) × (whole < 10000) × (compared < 10000) × (skipped < 10000) → ((k : ℕ) → getD ids k 0 < 10000) → length ids ≤ 8192 → length (found-text rows lines bs whole compared skipped ids) ≤ 49152
 unfolding found-text

@@ -1,17 +1,18 @@
 -- The whole text of an input: which of its forms it takes, that it fits, and what the lent bytes are afterwards. Assumes nothing.
-use Prim.Native.Nat.{ℕ, _+_, _<_, _≤_}
-use mathlib.Core.Path.{_≡_, refl, _∙_, ap}
+use Prim.Native.Nat.{ℕ, _<_, _≤_}
+use mathlib.Core.Path.{_≡_, refl, ap}
 use mathlib.Core.List.{List}
 use mathlib.Core.Bool.{Bool, true, false}
 use native.Mathlib.Omega.{arith}
 use lib.ListN.{length}
 use borrow.Author.Tests.{lt-ltb, le-ltb}
-use Rattle.words.proofs.ListLaws.{sets-filled}
-use Rattle.range_text.specs.loops.Puts.{Puts}
+use Rattle.decimal_text.specs.loops.Puts.{Puts}
+use Rattle.decimal_text.specs.Text.{refused-line}
+use Rattle.decimal_text.proofs.PutsLaws.{puts-front}
+use Rattle.decimal_text.proofs.DecimalLaws.{refused-short}
 use Rattle.range_input.specs.Input.{readable, low-of, high-of, column-of}
-use Rattle.range_text.specs.Text.{text-of, range-text, refused-line, Writes}
+use Rattle.range_text.specs.Text.{text-of, range-text, Writes}
 use Rattle.range_input.proofs.InputLaws.{readable-few, column-length}
-use Rattle.range_text.proofs.LengthLaws.{refused-short}
 use Rattle.range_text.proofs.AnswerLaws.{text-short}
 
 module _ (s : List ℕ) where
@@ -36,6 +37,5 @@ module _ (s : List ℕ) where
 
     pub writes-text : 49152 ≤ length out → {r : ℕ} {out′ : List ℕ} → Puts out 0 (text-of s) r out′ → Writes s out r out′
     writes-text h p =
-        let t : length (text-of s) ≤ length out = omega (arith, text-of-short) in
-        let n : 0 + length (text-of s) ≡ length (text-of s) = omega arith in
-        record { count = rw (le-ltb (length out) 49152 h) (p .place ∙ n); bytes = rw (le-ltb (length out) 49152 h) (p .bytes ∙ sets-filled (text-of s) out t) }
+        let f = puts-front (omega (arith, text-of-short)) p in
+        record { count = rw (le-ltb (length out) 49152 h) (f .0); bytes = rw (le-ltb (length out) 49152 h) (f .1) }

@@ -1,5 +1,5 @@
 -- Document 01: what the program prints, as a list of bytes. Every line ends with a line feed. Assumes nothing.
-use Prim.Native.Nat.{ℕ, zero, suc, _+_, _/_, _%_}
+use Prim.Native.Nat.{ℕ}
 use mathlib.Core.Path.{_≡_}
 use mathlib.Core.List.{List, [], _∷_, _++_, map}
 use mathlib.Core.Bool.{cond}
@@ -8,38 +8,23 @@ use lib.IntN.{ℤ}
 use lib.ListN.{length}
 use lib.Signed.{ltZ}
 use Rattle.words.specs.Lists.{joined, filled}
-use Rattle.words.specs.Numbers.{Number, numbered, unreadable, low-above-high}
+use Rattle.words.specs.Numbers.{unreadable, low-above-high}
+use Rattle.decimal_text.specs.Text.{labelled, ended, refused-text}
 use Rattle.bins.specs.Bins.{readings, borders}
 use Rattle.column_index.specs.Index.{built, line-count}
 use Rattle.run_search.specs.Search.{Answer, search-by}
 use Rattle.range_input.specs.Input.{readable, low-of, high-of, column-of}
 
--- ---- numbers in decimal
-
--- the digits of n, most significant first, if it has at most k of them
-abbrev pub shown : ℕ → ℕ → List ℕ
-shown zero n = []
-shown (suc k) n = let front = shown k (n / 10) in cond (ltb n 10) ((48 + n) ∷ []) (front ++ ((48 + n % 10) ∷ []))
-
--- no number of 64 bits has more than 20 digits
-unfoldable pub decimal : ℕ → List ℕ
-decimal n = shown 20 n
-
--- a word and a number
-unfoldable pub labelled : List ℕ → ℕ → List ℕ
-labelled word n = word ++ decimal n
+-- ---- the rows listed
 
 -- a number and a line feed
 unfoldable pub row-line : ℕ → List ℕ
-row-line n = decimal n ++ (10 ∷ [])
+row-line n = ended n 10
 
 unfoldable pub row-lines : List ℕ → List ℕ
 row-lines ids = joined (map row-line ids)
 
 -- ---- the words, in ASCII
-
-abbrev pub refused-word : List ℕ
-refused-word = 114 ∷ 101 ∷ 102 ∷ 117 ∷ 115 ∷ 101 ∷ 100 ∷ 32 ∷ []
 
 abbrev pub rows-word : List ℕ
 rows-word = 114 ∷ 111 ∷ 119 ∷ 115 ∷ 32 ∷ []
@@ -64,13 +49,6 @@ skipped-word = 32 ∷ 115 ∷ 107 ∷ 105 ∷ 112 ∷ 112 ∷ 101 ∷ 100 ∷ 32
 -- a line of three words, each with its number
 unfoldable pub three : List ℕ → ℕ → List ℕ → ℕ → List ℕ → ℕ → List ℕ
 three a x b y c z = labelled a x ++ labelled b y ++ labelled c z ++ (10 ∷ [])
-
--- `refused`, a space and the number
-unfoldable pub refused-line : ℕ → List ℕ
-refused-line n = labelled refused-word n ++ (10 ∷ [])
-
-abbrev pub refused-text : Number → List ℕ
-refused-text n = refused-line (numbered n)
 
 -- rows, lines and borders; lines whole, values compared and lines skipped; then the rows listed, one a line
 unfoldable pub found-text : ℕ → ℕ → ℕ → ℕ → ℕ → ℕ → List ℕ → List ℕ

@@ -1,16 +1,16 @@
 // The text of an input: decoded, its column's index built, the range searched, the answer written.
 use crate::writing::put_found;
-use crate::writing::put_refused;
 use column_index::BuildAnswer;
 use column_index::SearchAnswer;
+use decimal_text::put_refused;
 use range_input::Input;
 use range_input::decode;
 ghost use mathlib.Core.Path.{_≡_};
 ghost use Prim.Native.Nat.{_≤_};
 ghost use lib.ListN.{length};
+ghost use Rattle.decimal_text.specs.loops.Puts.{Puts};
 ghost use Rattle.bins.specs.Bins.{readings, borders as borders-of};
 ghost use Rattle.column_index.specs.Index.{built};
-ghost use Rattle.range_text.specs.loops.Puts.{Puts};
 ghost use Rattle.range_text.specs.Text.{range-text, Writes};
 
 // The text for a column whose index stands: of the search's refusals only 1 can arise here.

@@ -10,10 +10,9 @@ use mir.ValLaws.{toZ-ofZ}
 use borrow.Author.Needs.{needs}
 use lib.IntN.{ℤ}
 use mir.Val.{toZ, ofZ}
+use Rattle.decimal_text.proofs.PutsLaws.{puts-as}
 use Rattle.range_input.specs.Input.{low-of, high-of}
 use Rattle.range_text.specs.Text.{range-text, text-of}
-use Rattle.range_text.proofs.PutsLaws.{puts-as}
-use Rattle.range_text.proofs.LengthLaws.{refused-short}
 use Rattle.range_input.proofs.InputLaws.{was-unread, was-read, few-read, column-read, value-fits}
 use Rattle.range_text.proofs.WritesLaws.{unread-text, read-text, writes-nothing, writes-text}
 use Rattle.range_text.proofs.answering.answer_text.Statement.{statement}
@@ -32,7 +31,7 @@ enum-told : tie.Need-enum-told
 enum-told c = search needs
 
 put-refused-requires : tie.Need-put-refused-requires
-put-refused-requires c κs = omega (arith, refused-short 12 (omega arith), c .before .before .before .before .before .before .if1 .left)
+put-refused-requires c κs = (omega arith, omega (arith, c .before .before .before .before .before .before .if1 .left))
 
 enum-known-got : tie.Need-enum-known-got
 enum-known-got c = search needs
@@ -73,7 +72,7 @@ returns-2 c =
     let i = s .args .input .now in
     let o = s .args .out .now in
     let f = c .before .before .before .before .before .before .before .decode in
-    writes-text i o (c .before .before .before .before .before .before .before .before .before .if1 .left) (puts-as (text-of i) (unread-text i (was-unread (f .ensures) (c .before .before .before .before .enum-told .given .1))) (c .before .before .put-refused .ensures))
+    writes-text i o (c .before .before .before .before .before .before .before .before .before .if1 .left) (puts-as (text-of i) (unread-text i (was-unread (f .ensures) (c .before .before .before .before .enum-told .given .1))) (c .before .before .put-refused .ensures .1))
 
 same-length-2 : tie.Need-same-length-2
 same-length-2 c = search needs

@@ -7,10 +7,10 @@ use mir.Syntax.{w32}
 use mir.ValLaws.{toZ-ofZ}
 use borrow.Author.Needs.{needs}
 use Rattle.words.specs.Numbers.{numbered}
+use Rattle.decimal_text.proofs.PutsLaws.{puts-as}
 use Rattle.column_index.specs.Promise.{build-number}
 use Rattle.column_index.specs.declared.BuildAnswer.{BuildAnswer}
 use Rattle.range_text.specs.Text.{range-text}
-use Rattle.range_text.proofs.PutsLaws.{puts-as}
 use Rattle.range_text.proofs.AnswerLaws.{build-never, fronts-few, fronts-are}
 use Rattle.range_text.proofs.answering.column_text.Statement.{statement}
 use Rattle.range_text.proofs.answering.column_text.Tie as tie

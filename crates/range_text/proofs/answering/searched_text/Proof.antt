@@ -7,12 +7,11 @@ use mir.Syntax.{w32}
 use mir.ValLaws.{toZ-ofZ}
 use borrow.Author.Needs.{needs}
 use Rattle.words.specs.Numbers.{numbered}
+use Rattle.decimal_text.proofs.PutsLaws.{puts-as}
 use Rattle.column_index.specs.Promise.{search-number}
 use Rattle.column_index.specs.declared.SearchAnswer.{SearchAnswer}
 use Rattle.range_text.specs.Text.{range-text}
-use Rattle.range_text.proofs.PutsLaws.{puts-as}
-use Rattle.range_text.proofs.LengthLaws.{refused-short}
-use Rattle.range_text.proofs.AnswerLaws.{never, low-text, count-few, all-below, five-numbers, text-is, text-room}
+use Rattle.range_text.proofs.AnswerLaws.{never, low-text, count-few, text-is, text-room}
 use Rattle.range_text.proofs.answering.searched_text.Statement.{statement}
 use Rattle.range_text.proofs.answering.searched_text.Tie as tie
 
@@ -53,13 +52,13 @@ put-found-requires c κs =
     let l = toZ-ofZ w32 (a .low) (s .fits .low) in
     let h = toZ-ofZ w32 (a .high) (s .fits .high) in
     let g = c .before .before .before .answer .given in
-    (five-numbers (s .pre .0 .0) refl (s .pre .1 .0) (s .pre .1 .1 .0) (s .pre .1 .1 .1) l h (f .ensures) (g .0 .0) (g .0 .1 .0) (g .0 .1 .1 .0) (g .0 .1 .1 .1 .0) (g .1), (all-below (s .pre .0 .0) refl (s .pre .1 .0) (s .pre .1 .1 .0) (s .pre .1 .1 .1) l h (f .ensures) (g .0 .0) (g .0 .1 .0) (g .0 .1 .1 .0) (g .0 .1 .1 .1 .0) (g .1), text-room (s .pre .0 .0) refl (s .pre .1 .0) (s .pre .1 .1 .0) (s .pre .1 .1 .1) l h (f .ensures) (g .0 .0) (g .0 .1 .0) (g .0 .1 .1 .0) (g .0 .1 .1 .1 .0) (g .1) (a .out .now) (s .pre .0 .1)))
+    (s .pre .0 .0, text-room (s .pre .0 .0) refl (s .pre .1 .0) (s .pre .1 .1 .0) (s .pre .1 .1 .1) l h (f .ensures) (g .0 .0) (g .0 .1 .0) (g .0 .1 .1 .0) (g .0 .1 .1 .1 .0) (g .1) (a .out .now) (s .pre .0 .1))
 
 enum-told : tie.Need-enum-told
 enum-told c = search needs
 
 put-refused-requires : tie.Need-put-refused-requires
-put-refused-requires c κs = let s = c .before .before .before .before .before .before .before .before .before in omega (arith, refused-short 1 (omega arith), s .pre .0 .1)
+put-refused-requires c κs = let s = c .before .before .before .before .before .before .before .before .before in (omega arith, omega (arith, s .pre .0 .1))
 
 enum-told-2 : tie.Need-enum-told-2
 enum-told-2 c = search needs
@@ -96,7 +95,7 @@ returns-2 c =
     let f = c .before .before .before .before .before .before .before .search in
     let l = toZ-ofZ w32 (a .low) (s .fits .low) in
     let h = toZ-ofZ w32 (a .high) (s .fits .high) in
-    puts-as (range-text (a .column .now) (a .low) (a .high)) (low-text (s .pre .0 .0) refl (s .pre .1 .0) (s .pre .1 .1 .0) (s .pre .1 .1 .1) l h (f .ensures) (c .before .before .before .before .enum-told .given .1)) (c .before .before .put-refused .ensures)
+    puts-as (range-text (a .column .now) (a .low) (a .high)) (low-text (s .pre .0 .0) refl (s .pre .1 .0) (s .pre .1 .1 .0) (s .pre .1 .1 .1) l h (f .ensures) (c .before .before .before .before .enum-told .given .1)) (c .before .before .put-refused .ensures .1)
 
 returns-3 : tie.Need-returns-3
 returns-3 c =

@@ -2,9 +2,9 @@
 use mathlib.Core.List.{[], _++_}
 use borrow.Author.Needs.{needs}
 use Rattle.words.specs.Lists.{ceil}
+use Rattle.decimal_text.proofs.PutsLaws.{room-first, room-then, puts-then}
 use Rattle.bins.specs.Bins.{readings}
 use Rattle.range_text.specs.Text.{three, row-lines, found-text, rows-word, lines-word, borders-word, whole-word, compared-word, skipped-word}
-use Rattle.range_text.proofs.PutsLaws.{room-first, room-then, puts-then}
 use Rattle.range_text.proofs.writing.put_found.Statement.{statement}
 use Rattle.range_text.proofs.writing.put_found.Tie as tie
 
@@ -17,9 +17,8 @@ put-size-requires c κs =
     let u = three rows-word (a .rows) lines-word (ceil (a .rows) (readings .per)) borders-word (a .borders) in
     let v = three whole-word (a .whole) compared-word (a .compared) skipped-word (a .skipped) in
     let w = row-lines (a .ids .now) in
-    let b = s .pre .0 in
-    let m = s .pre .1 .1 in
-    (b .0, b .1, room-first o 0 u v (room-first o 0 (u ++ v) w m))
+    let m = s .pre .1 in
+    (s .pre .0, room-first o 0 u v (room-first o 0 (u ++ v) w m))
 
 put-counts-requires : tie.Need-put-counts-requires
 unfolding found-text
@@ -30,9 +29,8 @@ put-counts-requires c κs =
     let u = three rows-word (a .rows) lines-word (ceil (a .rows) (readings .per)) borders-word (a .borders) in
     let v = three whole-word (a .whole) compared-word (a .compared) skipped-word (a .skipped) in
     let w = row-lines (a .ids .now) in
-    let b = s .pre .0 in
-    let m = s .pre .1 .1 in
-    (b .2, b .3, b .4, room-then o 0 u v (room-first o 0 (u ++ v) w m) _ _ (c .before .before .before .put-size .ensures))
+    let m = s .pre .1 in
+    room-then o 0 u v (room-first o 0 (u ++ v) w m) _ _ (c .before .before .before .put-size .ensures)
 
 put-rows-requires : tie.Need-put-rows-requires
 unfolding found-text
@@ -43,9 +41,8 @@ put-rows-requires c κs =
     let u = three rows-word (a .rows) lines-word (ceil (a .rows) (readings .per)) borders-word (a .borders) in
     let v = three whole-word (a .whole) compared-word (a .compared) skipped-word (a .skipped) in
     let w = row-lines (a .ids .now) in
-    let b = s .pre .0 in
-    let m = s .pre .1 .1 in
-    (s .pre .1 .0, room-then o 0 (u ++ v) w m _ _ (puts-then o 0 u v (c .before .before .before .before .before .before .before .put-size .ensures) (c .before .before .before .put-counts .ensures)))
+    let m = s .pre .1 in
+    room-then o 0 (u ++ v) w m _ _ (puts-then o 0 u v (c .before .before .before .before .before .before .before .put-size .ensures) (c .before .before .before .put-counts .ensures))
 
 same-length : tie.Need-same-length
 same-length c = search needs
@@ -59,8 +56,7 @@ returns c =
     let u = three rows-word (a .rows) lines-word (ceil (a .rows) (readings .per)) borders-word (a .borders) in
     let v = three whole-word (a .whole) compared-word (a .compared) skipped-word (a .skipped) in
     let w = row-lines (a .ids .now) in
-    let b = s .pre .0 in
-    let m = s .pre .1 .1 in
+    let m = s .pre .1 in
     puts-then o 0 (u ++ v) w (puts-then o 0 u v (c .before .before .before .before .before .before .before .before .before .before .put-size .ensures) (c .before .before .before .before .before .before .put-counts .ensures)) (c .before .before .put-rows .ensures)
 
 pub put-found-spec : {M : Type 1} → statement M

@@ -1,12 +1,14 @@
 -- `range_text::writing::put_rows` meets its contract: the lines still to come fix every byte. Assumes nothing.
-use Prim.Native.Nat.{_≤_, _+_, _-_}
+use Prim.Native.Nat.{ℕ, _≤_, _+_, _-_}
 use mathlib.Core.Path.{ap}
 use mathlib.Core.List.{[]}
 use native.Mathlib.Omega.{arith}
 use borrow.Author.Needs.{needs}
 use lib.ListN.{length, drop, getD}
+use Rattle.decimal_text.specs.Text.{ended}
+use Rattle.decimal_text.proofs.PutsLaws.{puts-as, Rest, rest-starts, rest-room, rest-next, rest-ends}
 use Rattle.range_text.specs.Text.{row-line, row-lines}
-use Rattle.range_text.proofs.PutsLaws.{puts-as, rows-more, rows-none, Rest, rest-starts, rest-room, rest-next, rest-ends}
+use Rattle.range_text.proofs.RowLaws.{rows-more, rows-none}
 use Rattle.range_text.proofs.writing.put_rows.Statement.{statement}
 use Rattle.range_text.proofs.writing.put_rows.Tie as tie
 
@@ -28,12 +30,13 @@ shared-slice-read-wide c = omega arith
 wide-requires : tie.Need-wide-requires Inv-loop μ-loop
 wide-requires c κs = search needs
 
-put-row-requires : tie.Need-put-row-requires Inv-loop μ-loop
-put-row-requires c κs =
+put-ended-requires : tie.Need-put-ended-requires Inv-loop μ-loop
+unfolding row-line
+put-ended-requires c κs =
     let s = c .before .before .before .before .before .before .before in
     let rows = s .args .rows .now in
     let l = c .before .before .before .before .loop in
-    rw (c .wide .ensures) (s .pre .0 (l .i), rest-room (l .inv .1) (row-line (getD rows (l .i) 0)) (row-lines (drop (l .i + 1) rows)) (rows-more rows (l .i) (c .before .before .before .loop-test .taken)) (s .pre .1))
+    rw (c .wide .ensures) (rest-room (l .inv .1) (row-line (getD rows (l .i) 0)) (row-lines (drop (l .i + 1) rows)) (rows-more rows (l .i) (c .before .before .before .loop-test .taken)) (s .pre))
 
 add-i : tie.Need-add-i Inv-loop μ-loop
 add-i c = omega arith
@@ -42,11 +45,12 @@ loop-less : tie.Need-loop-less Inv-loop μ-loop
 loop-less c = omega arith
 
 loop-again : tie.Need-loop-again Inv-loop μ-loop
+unfolding row-line
 loop-again c =
     let rows = c .before .before .before .before .before .before .before .before .before .before .args .rows .now in
     let l = c .before .before .before .before .before .before .before .loop in
     let u = row-line (getD rows (l .i) 0) in
-    (omega arith, rest-next (l .inv .1) u (row-lines (drop (l .i + 1) rows)) (rows-more rows (l .i) (c .before .before .before .before .before .before .loop-test .taken)) (puts-as u (ap row-line (c .before .before .before .wide .ensures)) (c .before .before .put-row .ensures)))
+    (omega arith, rest-next (l .inv .1) u (row-lines (drop (l .i + 1) rows)) (rows-more rows (l .i) (c .before .before .before .before .before .before .loop-test .taken)) (puts-as u (ap (λ (n : ℕ). ended n 10) (c .before .before .before .wide .ensures)) (c .before .before .put-ended .ensures)))
 
 same-length : tie.Need-same-length Inv-loop μ-loop
 same-length c = let l = c .before .loop .inv .1 .same in search needs
@@ -64,7 +68,7 @@ put-rows-spec =
     mul-wide
     shared-slice-read-wide
     wide-requires
-    put-row-requires
+    put-ended-requires
     add-i
     loop-less
     loop-again

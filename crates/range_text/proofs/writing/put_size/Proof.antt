@@ -1,11 +1,10 @@
 -- `range_text::writing::put_size` meets its contract: the lines are counted as the text has them. Assumes nothing.
 use mathlib.Core.Path.{ap}
-use native.Mathlib.Omega.{arith}
 use borrow.Author.Needs.{needs}
 use Rattle.words.specs.Lists.{ceil}
+use Rattle.decimal_text.proofs.PutsLaws.{puts-as}
 use Rattle.bins.specs.Bins.{readings}
 use Rattle.range_text.specs.Text.{three, rows-word, lines-word, borders-word}
-use Rattle.range_text.proofs.PutsLaws.{puts-as}
 use Rattle.range_text.proofs.writing.put_size.Statement.{statement}
 use Rattle.range_text.proofs.writing.put_size.Tie as tie
 
@@ -25,7 +24,7 @@ put-three-requires : tie.Need-put-three-requires
 put-three-requires c κs =
     let s = c .before .before .before .before .before .before in
     let k = c .before .before .before .before .line-count in
-    (s .pre .0, omega (arith, k .ensures), s .pre .1, rw (k .ensures) (s .pre .2))
+    rw (k .ensures) (s .pre .1)
 
 same-length : tie.Need-same-length
 same-length c = search needs

@@ -1,8 +1,9 @@
 -- `range_text::writing::put_three` meets its contract. Assumes nothing.
 use mathlib.Core.List.{[], _∷_, _++_}
 use borrow.Author.Needs.{needs}
-use Rattle.range_text.specs.Text.{labelled, three}
-use Rattle.range_text.proofs.PutsLaws.{room-first, room-then, puts-then}
+use Rattle.decimal_text.specs.Text.{labelled}
+use Rattle.decimal_text.proofs.PutsLaws.{room-first, room-then, puts-then}
+use Rattle.range_text.specs.Text.{three}
 use Rattle.range_text.proofs.writing.put_three.Statement.{statement}
 use Rattle.range_text.proofs.writing.put_three.Tie as tie
 
@@ -15,8 +16,8 @@ put-labelled-requires c κs =
     let u = labelled (s .args .a .now) (s .args .x) in
     let v = labelled (s .args .b .now) (s .args .y) in
     let w = labelled (s .args .c .now) (s .args .z) in
-    let m = s .pre .3 in
-    (s .pre .0, room-first o p u v (room-first o p (u ++ v) w (room-first o p (u ++ v ++ w) (10 ∷ []) m)))
+    let m = s .pre in
+    room-first o p u v (room-first o p (u ++ v) w (room-first o p (u ++ v ++ w) (10 ∷ []) m))
 
 put-labelled-requires-2 : tie.Need-put-labelled-requires-2
 unfolding three
@@ -27,8 +28,8 @@ put-labelled-requires-2 c κs =
     let u = labelled (s .args .a .now) (s .args .x) in
     let v = labelled (s .args .b .now) (s .args .y) in
     let w = labelled (s .args .c .now) (s .args .z) in
-    let m = s .pre .3 in
-    (s .pre .1, room-then o p u v (room-first o p (u ++ v) w (room-first o p (u ++ v ++ w) (10 ∷ []) m)) _ _ (c .before .before .before .put-labelled .ensures))
+    let m = s .pre in
+    room-then o p u v (room-first o p (u ++ v) w (room-first o p (u ++ v ++ w) (10 ∷ []) m)) _ _ (c .before .before .before .put-labelled .ensures)
 
 put-labelled-requires-3 : tie.Need-put-labelled-requires-3
 unfolding three
@@ -39,8 +40,8 @@ put-labelled-requires-3 c κs =
     let u = labelled (s .args .a .now) (s .args .x) in
     let v = labelled (s .args .b .now) (s .args .y) in
     let w = labelled (s .args .c .now) (s .args .z) in
-    let m = s .pre .3 in
-    (s .pre .2, room-then o p (u ++ v) w (room-first o p (u ++ v ++ w) (10 ∷ []) m) _ _ (puts-then o p u v (c .before .before .before .before .before .before .before .put-labelled .ensures) (c .before .before .before .put-labelled2 .ensures)))
+    let m = s .pre in
+    room-then o p (u ++ v) w (room-first o p (u ++ v ++ w) (10 ∷ []) m) _ _ (puts-then o p u v (c .before .before .before .before .before .before .before .put-labelled .ensures) (c .before .before .before .put-labelled2 .ensures))
 
 put-byte-requires : tie.Need-put-byte-requires
 unfolding three
@@ -51,7 +52,7 @@ put-byte-requires c κs =
     let u = labelled (s .args .a .now) (s .args .x) in
     let v = labelled (s .args .b .now) (s .args .y) in
     let w = labelled (s .args .c .now) (s .args .z) in
-    let m = s .pre .3 in
+    let m = s .pre in
     room-then o p (u ++ v ++ w) (10 ∷ []) m _ _ (puts-then o p (u ++ v) w (puts-then o p u v (c .before .before .before .before .before .before .before .before .before .before .before .put-labelled .ensures) (c .before .before .before .before .before .before .before .put-labelled2 .ensures)) (c .before .before .before .put-labelled3 .ensures))
 
 same-length : tie.Need-same-length
@@ -66,7 +67,7 @@ returns c =
     let u = labelled (s .args .a .now) (s .args .x) in
     let v = labelled (s .args .b .now) (s .args .y) in
     let w = labelled (s .args .c .now) (s .args .z) in
-    let m = s .pre .3 in
+    let m = s .pre in
     puts-then o p (u ++ v ++ w) (10 ∷ []) (puts-then o p (u ++ v) w (puts-then o p u v (c .before .before .before .before .before .before .before .before .before .before .before .before .before .before .put-labelled .ensures) (c .before .before .before .before .before .before .before .before .before .before .put-labelled2 .ensures)) (c .before .before .before .before .before .before .put-labelled3 .ensures)) (c .before .before .put-byte .ensures)
 
 pub put-three-spec : {M : Type 1} → statement M
