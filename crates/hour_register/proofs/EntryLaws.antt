@@ -10,7 +10,8 @@ use lib.ListN.{length, drop, getD, length-drop, drop-of-length-le}
 use lib.Seq.{drop-cons, getD-drop}
 use borrow.Author.Tests.{eqb-true, eq-eqb, ltb-true, ltb-false}
 use Rattle.words.specs.Lists.{from}
-use Rattle.hour_register.specs.Register.{Entry, hour-of, begins, cut, times, entry-hour, entries, register}
+use Rattle.words.specs.Lists.{times}
+use Rattle.hour_register.specs.Register.{Entry, hour-of, begins, cut, entry-hour, entries, register}
 use Rattle.hour_register.specs.Rows.{minute, entry, Has, rows-in, hours, of-hour}
 use Rattle.hour_register.specs.loops.Cuts.{stays}
 use Rattle.hour_register.proofs.CutLaws.{stayed, cut-at, end-le, rows-at}

@@ -9,11 +9,12 @@ use lib.ListN.{length, take, drop, getD, set, length-append, length-drop, drop-o
 use lib.Seq.{sets, sets-eq, length-sets, drop-set-lt, drop-append-add, drop-drop, drop-at, take-at, take-append-le, length-take-le, getD-append-add}
 use Rattle.words.specs.Numbers.{most-rows}
 use Rattle.words.proofs.ListLaws.{sets-filled, take-filled}
-use Rattle.hour_register.specs.Register.{begins, in-front, cut, times}
-use Rattle.hour_register.specs.loops.Counts.{Within, Listed, odds, late-from, above-from, retold, Ready}
+use Rattle.words.specs.Lists.{times}
+use Rattle.hour_register.specs.Register.{begins, in-front, cut}
+use Rattle.late_counts.specs.loops.Counts.{Within, Listed, odds, late-from, above-from, retold, Ready}
 use Rattle.hour_register.specs.loops.Notes.{noted, told}
-use Rattle.hour_register.specs.declared.counting.Late.{Late}
-use Rattle.hour_register.proofs.CountLaws.{late-known, late-within, late-length}
+use Rattle.late_counts.specs.declared.Late.{Late}
+use Rattle.late_counts.proofs.CountLaws.{late-known, late-within, late-length}
 use Rattle.hour_register.proofs.NoteLaws.{noted-length, odds-length, retold-noted}
 
 -- no more entries than rows

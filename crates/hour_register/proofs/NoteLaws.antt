@@ -12,10 +12,11 @@ use lib.Signed.{ltZ}
 use lib.ListN.{length, take, drop, getD, set, length-set, length-append, drop-of-length-le}
 use lib.Seq.{sets, sets-eq, length-sets, drop-drop, drop-set-lt, getD-drop, take-at, take-all, length-take-le}
 use borrow.Author.Tests.{ltb-true, ltb-false, lt-ltb}
-use Rattle.hour_register.specs.Register.{hour-of, cut, times, register-words, register}
+use Rattle.words.specs.Lists.{times}
+use Rattle.hour_register.specs.Register.{hour-of, cut, register-words, register}
 use Rattle.hour_register.specs.Promise.{first-negative}
 use Rattle.hour_register.specs.loops.Cuts.{stays}
-use Rattle.hour_register.specs.loops.Counts.{odds, retold}
+use Rattle.late_counts.specs.loops.Counts.{odds, retold}
 use Rattle.hour_register.specs.loops.Notes.{noted, told, written}
 use Rattle.hour_register.proofs.CutLaws.{cut-at, end-le, rows-at, negative-at, negative-here}
 

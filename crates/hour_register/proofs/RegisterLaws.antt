@@ -10,7 +10,8 @@ use lib.Signed.{ltZ}
 use lib.ListN.{length}
 use borrow.Author.Tests.{eq-eqb, ltb-true, ltb-false, le-ltb}
 use Rattle.words.specs.Lists.{from}
-use Rattle.hour_register.specs.Register.{Entry, hour-of, begins, times, register}
+use Rattle.words.specs.Lists.{times}
+use Rattle.hour_register.specs.Register.{Entry, hour-of, begins, register}
 use Rattle.hour_register.specs.Rows.{minute, entry, Has, rows-in, hours, of-hour}
 use Rattle.hour_register.proofs.CutLaws.{stayed, parts-back}
 use Rattle.hour_register.proofs.EntryLaws.{Right, register-right, right-entry, behind, first-at, next-first, some-entry, total, register-counted, repeat-rises, repeats-from}

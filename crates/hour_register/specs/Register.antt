@@ -6,7 +6,7 @@ use lib.Dec.{eqb}
 use lib.IntN.{ℤ, pos, negsuc}
 use lib.ListN.{length}
 use lib.Signed.{ltZ}
-use Rattle.words.specs.Lists.{joined}
+use Rattle.words.specs.Lists.{times, joined}
 
 -- ---- where a new entry begins
 
@@ -41,11 +41,6 @@ pub record Entry : Type 0 where
   pub repeat : ℕ
   pub first : ℕ
   pub rows : ℕ
-
--- how many of the numbers are h
-abbrev pub times : ℕ → List ℕ → ℕ
-times h [] = 0
-times h (x ∷ xs) = cond (eqb x h) 1 0 + times h xs
 
 -- the hour number of an entry: that of its first minute
 abbrev pub entry-hour : List ℤ → ℕ

@@ -2,7 +2,6 @@
 // noted in the upper half of the register's own words, the repeat numbers are found with the lower half as working space, and the entries are written
 // over both. So the call needs no other space.
 mod cutting; // cutting.rt: where entries end, and how many there are
-mod counting; // counting.rt: how often an hour came before
 mod writing; // writing.rt: the entries noted, and written
 
 use cutting::Measured;
@@ -29,12 +28,12 @@ fn fill(minutes: &[i32], words: &mut [u32], n: usize)
     ensures { λ _. ⌜ now (words .exit) ≡ register-words (now (minutes .entry)) ⌝ }
 {
     writing::note_entries(minutes, &mut *words, n);
-    let late = counting::gather_late(&mut *words, n);
+    let late = late_counts::gather_late(&mut *words, n);
     let count = late.count;
-    let once = counting::sort_once(&mut words[..count], late.above);
+    let once = late_counts::sort_once(&mut words[..count], late.above);
     let twice = 2 * once;
-    counting::clear(&mut words[once..twice]);
-    counting::tell_repeats(&mut *words, n, once);
+    late_counts::clear(&mut words[once..twice]);
+    late_counts::tell_repeats(&mut *words, n, once);
     writing::write_entries(minutes, words, n);
 }
 

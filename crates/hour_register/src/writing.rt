@@ -1,7 +1,7 @@
 // The entries noted in the upper half of the register's words, and written over them. Entry e is noted behind all that entries before it fill, so nothing is written over that is still to be read.
-use crate::counting::wide;
 use crate::cutting::entry_end;
 use crate::cutting::hour;
+use late_counts::wide;
 use words::Row;
 ghost use mathlib.Core.Path.{_≡_};
 ghost use mathlib.Core.List.{[], _∷_};

@@ -4,7 +4,8 @@ use mathlib.Core.List.{List, [], _∷_, map}
 use lib.IntN.{ℤ}
 use lib.ListN.{length}
 use Rattle.words.specs.Lists.{joined}
-use Rattle.hour_register.specs.Register.{times, entry-hour, entries, entry-words}
+use Rattle.words.specs.Lists.{times}
+use Rattle.hour_register.specs.Register.{entry-hour, entries, entry-words}
 
 -- first row and hour
 abbrev pub noted : ℕ → List (List ℤ) → List ℕ
