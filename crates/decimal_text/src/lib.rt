@@ -2,7 +2,7 @@
 ghost use mathlib.Core.Path.{_≡_};
 ghost use Prim.Native.Nat.{_+_, _<_, _≤_};
 ghost use mathlib.Core.List.{[], _∷_};
-ghost use lib.ListN.{length};
+ghost use lib.ListN.{length, take};
 ghost use Rattle.decimal_text.specs.loops.Puts.{Room, Puts};
 ghost use Rattle.decimal_text.specs.Text.{decimal, labelled, ended, refused-line};
 
@@ -79,6 +79,8 @@ pub fn wide(x: u32) -> usize
 }
 
 // The first n bytes of what is lent, or all of it.
-pub fn front(s: &[u8], n: usize) -> &[u8] {
+pub fn front(s: &[u8], n: usize) -> &[u8]
+    ensures { λ r. ⌜ now r ≡ take n (now (s .entry)) ⌝ }
+{
     if n <= s.len() { &s[..n] } else { s }
 }

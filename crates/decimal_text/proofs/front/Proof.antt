@@ -1,6 +1,7 @@
--- `decimal_text::front` is safe. Assumes nothing.
+-- `decimal_text::front` meets its contract. Assumes nothing.
 use mathlib.Core.Path.{sym}
-use lib.Seq.{length-take-le}
+use native.Mathlib.Omega.{arith}
+use lib.Seq.{take-all, length-take-le}
 use borrow.Author.Needs.{needs}
 use Rattle.decimal_text.proofs.front.Statement.{statement}
 use Rattle.decimal_text.proofs.front.Tie as tie
@@ -12,7 +13,7 @@ returns : tie.Need-returns
 returns c = search needs
 
 returns-2 : tie.Need-returns-2
-returns-2 c = search needs
+returns-2 c = let a = c .before .args in sym (take-all (a .n) (a .s .now) (omega arith))
 
 pub front-spec : {M : Type 1} → statement M
 front-spec = tie.close (tie.spec slice-aggregate-result returns returns-2)
