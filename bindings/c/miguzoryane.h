@@ -31,10 +31,10 @@ enum mgz_number {
     MGZ_BAD_BORDERS = 5,        /* over MGZ_BORDERS_AT_MOST borders, or not strictly rising */
     MGZ_BAD_LEVELS = 6,         /* levels outside 1 to MGZ_LEVELS_AT_MOST */
     MGZ_NO_KEY = 7,             /* a key above 2^levels - 1 */
-    MGZ_NOT_A_FILTER = 8,       /* the words are not the layout of a smallest tree */
+    MGZ_NOT_A_FILTER = 8,       /* the words are not the layout of a smallest tree, with levels and room that a fresh filter would take */
     MGZ_NO_ROOM = 9,            /* learning would need more splits than the room */
     MGZ_NOTHING_TO_FORGET = 10, /* the tree is a single leaf */
-    MGZ_ROOM_TOO_LARGE = 11,    /* room above MGZ_ROOM_AT_MOST */
+    MGZ_ROOM_TOO_LARGE = 11,    /* room above MGZ_ROOM_AT_MOST, or above 2^levels - 1, which is all that a tree of so many levels can use */
     MGZ_NEGATIVE_MINUTE = 13,   /* a minute is negative, or a fault; `row` is the first such row */
     MGZ_COVERED_ABOVE_ROWS = 17 /* the index is said to cover more rows than the column has */
 };
@@ -175,7 +175,8 @@ uint32_t mgz_search(const int32_t *column, size_t column_length, const int32_t *
 /* How many words a filter of this room needs: 2 x room + 4. More may be lent; those behind are never changed. */
 uint64_t mgz_filter_words(uint32_t room);
 
-/* A filter of keys 0 to 2^levels - 1 that remembers nothing. `needed` is as above. Numbers: 6, 11, 4. */
+/* A filter of keys 0 to 2^levels - 1 that remembers nothing. A tree of so many levels can use 2^levels - 1 splits, so a larger room is a
+ * slip of whoever set the filter up, and is refused: at 4 levels 15 is taken, 16 is not. `needed` is as above. Numbers: 6, 11, 4. */
 uint32_t mgz_filter_fresh(uint32_t levels, uint32_t room, uint32_t *words, size_t words_length, uint64_t *needed);
 
 /* May the range low to high hold a sample? At MGZ_DONE `look` is 0 if the filter remembers it as empty (denied), else 1.

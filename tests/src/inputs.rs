@@ -374,6 +374,7 @@ pub fn damage_filter(dice: &mut Dice, words: &mut Vec<u32>, kind: usize) {
         0 => words[0] = dice.of(&[0, 1, 2, 3, 9, 21, 32, 33, u32::MAX]),
         1 => words[0] = words[0].wrapping_add(dice.of(&[1, u32::MAX])),
         2 => words[1] = dice.of(&[0, 1, 2, 3, 4095, 4096, 1 << 31, u32::MAX]),
+        3 if dice.one_in(2) => words[1] = plain::most_room(words[0]) + dice.below(2) as u32,
         3 => words[1] = words[1].wrapping_add(dice.of(&[1, u32::MAX])),
         4 => words[2] = dice.of(&[1, 2, 1 << 19, 1 << 20, u32::MAX]),
         5 => words[2] = 1u32.wrapping_shl(words[0]).wrapping_sub(dice.below(2) as u32),

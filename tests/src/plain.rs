@@ -429,6 +429,17 @@ pub struct Filter {
     pub empty: Vec<bool>,
 }
 
+/// Levels that a filter can have.
+fn good_levels(levels: u32) -> bool {
+    (1..=20).contains(&levels)
+}
+
+/// Request 104: the most that any tree of these levels can use, and 4,095 at most.
+pub fn most_room(levels: u32) -> u32 {
+    let usable = 2u64.saturating_pow(levels) - 1;
+    usable.min(ROOM_AT_MOST as u64) as u32
+}
+
 /// The formula: levels, room, hand, and a tree of at most `room` splits.
 pub fn filter_words(room: u32) -> u64 {
     2 * room as u64 + 4
@@ -515,7 +526,7 @@ impl Filter {
     /// What the words mean; none where 8 is due.
     pub fn meant(words: &[u32]) -> Option<Filter> {
         let (&levels, &room, &hand) = (words.first()?, words.get(1)?, words.get(2)?);
-        if !(1..=20).contains(&levels) || ROOM_AT_MOST < room || 1 << levels <= hand {
+        if !good_levels(levels) || most_room(levels) < room || 1 << levels <= hand {
             return None;
         }
         if (words.len() as u64) < filter_words(room) {
@@ -554,10 +565,10 @@ fn meant_with_range(words: &[u32], low: u32, high: u32) -> Result<Filter, No> {
 }
 
 pub fn fresh(levels: u32, room: u32, space: usize) -> Result<Filter, No> {
-    if !(1..=20).contains(&levels) {
+    if !good_levels(levels) {
         return no(6);
     }
-    if ROOM_AT_MOST < room {
+    if most_room(levels) < room {
         return no(11);
     }
     if (space as u64) < filter_words(room) {

@@ -22,7 +22,9 @@ fn formula() {
 #[test]
 fn fresh() {
     for levels in (0..=22).chain([31, 32, 33, 1 << 31, u32::MAX]) {
-        for room in [0, 1, 2, 15, 16, 4094, 4095, 4096, 5000, 1 << 31, u32::MAX] {
+        let most = plain::most_room(levels);
+        let rooms = [0, 1, 2, 15, 16, most.saturating_sub(1), most, most + 1, most + 2, 4094, 4095, 4096, 5000, 1 << 31, u32::MAX];
+        for room in rooms {
             let needed = plain::filter_words(room.min(4095)) as usize;
             for length in [0, 1, 3, needed - 1, needed, needed + 1, needed + 30] {
                 held::case(format!("levels {levels}, room {room}, {length} words"));
@@ -35,6 +37,49 @@ fn fresh() {
     }
 }
 
+/// Room 15 at 4 levels is taken and can be used, 16 isn't taken, nor what a fitter set up who swapped the settings; 6 comes before 11, and 11 before 4.
+#[test]
+fn swapped_settings() {
+    let number = |levels, room, length| held::fresh(levels, room, &mut vec![7; length]).err().map_or(0, |no| no.number);
+    let wanted = [(4, 15, 0), (4, 16, 11), (4, 4095, 11), (1, 1, 0), (1, 2, 11), (11, 2047, 0), (11, 2048, 11), (12, 4095, 0), (20, 4096, 11)];
+    for (levels, room, wanted) in wanted {
+        assert_eq!(number(levels, room, 8200), wanted, "levels {levels}, room {room}");
+    }
+    assert_eq!([number(0, 1, 8200), number(0, 4096, 0), number(21, 4096, 0)], [6; 3]);
+    assert_eq!([number(4, 16, 0), number(4, 15, 33), number(4, 15, 34)], [11, 4, 0]);
+    let mut words = vec![7; 34];
+    held::fresh(4, 15, &mut words).unwrap();
+    for key in (1..16).step_by(2) {
+        held::learn(&mut words, key, key).unwrap();
+    }
+    assert_eq!(held::read(&words), Ok([4, 15, 0, 15]));
+}
+
+/// Words laid out with a room that no tree of their levels can use are 8, everywhere, though they are long enough and their tree is a smallest one.
+#[test]
+fn words_with_an_unusable_room() {
+    let column = vec![1; 20];
+    let index = plain::index(&column);
+    for levels in 1..=12 {
+        let most = plain::most_room(levels);
+        for room in [most, most + 1, 4095, 4096] {
+            held::case(format!("levels {levels}, room {room}"));
+            let words = [&[levels, room, 0, 3, 1, 0], [5; 8200].as_slice()].concat();
+            let refused = [
+                held::read(&words).err(),
+                held::ask(&words, 0, 0).err(),
+                held::learn(&mut words.clone(), 0, 1).err(),
+                held::arrive(&mut words.clone(), 0).err(),
+                held::depart(&words, 0).err(),
+                held::forget(&mut words.clone()).err(),
+                held::guarded(&mut words.clone(), &column, &index, 0, 1, 20).err(),
+            ];
+            let wanted = (most < room).then_some(plain::No::of(8));
+            assert!(refused.iter().all(|no| *no == wanted), "levels {levels}, room {room}: {refused:?}");
+        }
+    }
+}
+
 /// Every set of keys up to three levels, with every hand, every range and key, and little room.
 #[test]
 fn every_small_set() {
@@ -43,7 +88,7 @@ fn every_small_set() {
         let keys = 1u32 << levels;
         for set in 0..1u64 << keys {
             let splits = plain::splits(&filter(levels, 0, 0, set).empty) as u32;
-            for room in [splits, splits + 1, keys - 1] {
+            for room in [splits, (splits + 1).min(keys - 1), keys - 1] {
                 let hand = dice.below(keys as usize) as u32;
                 let words = inputs::filter_words(&mut dice, &filter(levels, room, hand, set), 2);
                 held::case(format!("levels {levels}, set {set:b}, room {room}, hand {hand}"));
@@ -110,7 +155,7 @@ fn sequences() {
     for round in 0..rounds(500) {
         let mut dice = Dice::new(30_000 + round as u64);
         let levels = 1 + dice.below(8) as u32;
-        let room = dice.of(&[0, 1, levels, 2 * levels, 3 * levels, 1 << levels, 255]);
+        let room = dice.of(&[0, 1, levels, 2 * levels, 3 * levels, 255]).min(plain::most_room(levels));
         let mut words = vec![5; plain::filter_words(room) as usize + dice.below(3)];
         held::fresh(levels, room, &mut words).unwrap();
         for call in 0..80 {

@@ -30,7 +30,7 @@ fn sequences() {
         let mut dice = Dice::new(50_000 + round as u64);
         let levels = 1 + dice.below(6) as u32;
         let keys = 1u32 << levels;
-        let room = dice.of(&[0, 1, levels, 3 * levels, 63]);
+        let room = dice.of(&[0, 1, levels, 3 * levels, 63]).min(plain::most_room(levels));
         let different = dice.below(7);
         let column = column(&mut dice, levels, different);
         let own = plain::index(&column);
@@ -111,21 +111,25 @@ fn order_of_checks() {
     assert_eq!(number(&taught, &column, &bad_dictionary, 3, 3, 0), 3);
 }
 
-/// Demand 3: an unchanged column with n different keys, its own index, room k x n: whatever is asked, at most n + 1 looks find nothing, and each is learnt.
+/// Demand 3: an unchanged column with n different keys, its own index, room for the smaller of k x n and 2^k - 1: whatever is asked, at most n + 1 looks find nothing, and
+/// each is learnt.
 #[test]
 fn wasted_looks() {
+    let mut all_splits = 0;
     for round in 0..rounds(150) {
         let mut dice = Dice::new(70_000 + round as u64);
         let levels = 1 + dice.below(7) as u32;
         let keys = 1u32 << levels;
-        let different = dice.below(12);
+        let different = dice.of(&[0, 1, 2, 3, 5, 8, 12, 40]);
         let column = column(&mut dice, levels, different);
         let mut present: Vec<i32> = column.iter().copied().filter(|v| (0..keys as i32).contains(v)).collect();
         present.sort();
         present.dedup();
         let n = present.len();
         let index = held::build(&column, [63, 10, 10]).unwrap();
-        let mut words = fresh(levels, levels * n as u32, 0);
+        let room = (levels * n as u32).min(keys - 1);
+        all_splits += (room == keys - 1) as usize;
+        let mut words = fresh(levels, room, 0);
         let mut wasted = 0;
         let every = (0..keys).map(|key| (key, key));
         let some: Vec<(u32, u32)> = (0..60).map(|_| inputs::key_range(&mut dice, keys)).chain(every).collect();
@@ -144,6 +148,7 @@ fn wasted_looks() {
             assert_eq!(look, present.contains(&(key as i32)), "round {round}, key {key}");
         }
     }
+    assert!(20 < all_splits, "room 2^k - 1 came {all_splits} times");
 }
 
 /// The bound over the library alone, with more keys than the plain filter is quick for, and faults, which are no keys.
@@ -157,7 +162,7 @@ fn wasted_looks_of_a_long_column() {
     present.sort();
     present.dedup();
     let index = held::build(&column, [63, 400, 400]).unwrap();
-    let room = (levels * present.len() as u32).min(plain::ROOM_AT_MOST);
+    let room = (levels * present.len() as u32).min(plain::most_room(levels));
     let mut words = fresh(levels, room, 0);
     let (mut ids, mut wasted) = (vec![0; column.len()], 0);
     for _ in 0..rounds(1500) {

@@ -21,13 +21,13 @@ pub enum Error {
     BadLevels,
     /// 7: a key above 2^levels - 1.
     NoKey,
-    /// 8: the words are not the layout of a smallest tree.
+    /// 8: the words are not the layout of a smallest tree, with levels and room that a fresh filter would take.
     NotAFilter,
     /// 9: learning would need more splits than the filter has room for.
     NoRoom,
     /// 10: the tree is a single leaf: there is nothing to forget.
     NothingToForget,
-    /// 11: room above [`ROOM_AT_MOST`](crate::ROOM_AT_MOST).
+    /// 11: room above [`ROOM_AT_MOST`](crate::ROOM_AT_MOST), or above 2^levels - 1, which is all that a tree of so many levels can use.
     RoomTooLarge,
     /// 13: a minute is negative, or a [fault](crate::FAULT).
     NegativeMinute {
@@ -97,7 +97,7 @@ impl fmt::Display for Error {
             Error::NotAFilter => write!(f, "the words are no filter"),
             Error::NoRoom => write!(f, "learning needs more splits than the filter has room for"),
             Error::NothingToForget => write!(f, "there is nothing to forget"),
-            Error::RoomTooLarge => write!(f, "the room is above 4,095"),
+            Error::RoomTooLarge => write!(f, "the room is above 4,095, or above 2^levels - 1, which is all that a tree of so many levels can use"),
             Error::NegativeMinute { row } => write!(f, "the minute in row {row} is negative"),
             Error::CoveredAboveRows => write!(f, "the index covers more rows than the column has"),
         }

@@ -36,7 +36,7 @@ pub struct Filter<W = Vec<u32>> {
 pub struct FilterState {
     /// Keys are 0 to 2^levels - 1.
     pub levels: u32,
-    /// How many splits it may have.
+    /// How many splits it may have: 2^levels - 1 at most.
     pub room: u32,
     /// Where forgetting goes on.
     pub hand: u32,
@@ -45,13 +45,21 @@ pub struct FilterState {
 }
 
 impl Filter {
-    /// A filter that remembers nothing, in words of its own.
+    /// A filter that remembers nothing, in words of its own. A tree of k levels can use 2^k - 1 splits, so a larger room is a slip of
+    /// whoever set the filter up, and is refused, as is one above [`ROOM_AT_MOST`].
     ///
     /// ```
     /// use miguzoryane::{Error, Filter};
     ///
-    /// assert_eq!(Filter::fresh(21, 7).unwrap_err(), Error::BadLevels);
+    /// // 4 levels are 16 keys: whoever asks for room 4,095 there meant something else.
+    /// let slip = Filter::fresh(4, 4095).unwrap_err();
+    /// assert_eq!(slip, Error::RoomTooLarge);
+    /// assert_eq!(slip.to_string(), "the room is above 4,095, or above 2^levels - 1, which is all that a tree of so many levels can use");
+    /// assert_eq!(Filter::fresh(4, 16).unwrap_err(), Error::RoomTooLarge);
+    /// assert!(Filter::fresh(4, 15).is_ok());
+    /// assert!(Filter::fresh(12, 4095).is_ok());
     /// assert_eq!(Filter::fresh(20, 4096).unwrap_err(), Error::RoomTooLarge);
+    /// assert_eq!(Filter::fresh(21, 4096).unwrap_err(), Error::BadLevels);
     /// ```
     pub fn fresh(levels: u32, room: u32) -> Result<Filter, Error> {
         let length = filter_words(room.min(ROOM_AT_MOST)) as usize;
@@ -60,7 +68,7 @@ impl Filter {
 }
 
 impl<W: AsRef<[u32]>> Filter<W> {
-    /// The filter that these words mean.
+    /// The filter that these words mean. Words with a room that [`fresh`](Filter::fresh) would refuse mean none.
     ///
     /// ```
     /// use miguzoryane::{Error, Filter};

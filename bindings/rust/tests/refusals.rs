@@ -89,8 +89,11 @@ fn of_the_filter() {
     let backwards = 6..=5;
     let mut filter = Filter::fresh(4, 6).unwrap();
     assert_eq!(Filter::fresh(0, 4096).unwrap_err(), Error::BadLevels);
+    assert_eq!(Filter::fresh(0, 1).unwrap_err(), Error::BadLevels);
     assert_eq!(Filter::fresh(1, 4096).unwrap_err(), Error::RoomTooLarge);
-    assert_eq!(Filter::fresh_in(1, 2, [0; 7]).unwrap_err(), Error::SpaceShort { needed: 8 });
+    assert_eq!(Filter::fresh(20, 4096).unwrap_err(), Error::RoomTooLarge);
+    assert_eq!(Filter::fresh_in(1, 2, [0; 7]).unwrap_err(), Error::RoomTooLarge);
+    assert_eq!(Filter::fresh_in(2, 2, [0; 7]).unwrap_err(), Error::SpaceShort { needed: 8 });
     assert_eq!(filter.denies(16..=5), Err(Error::NoKey));
     assert_eq!(filter.denies(backwards.clone()), Err(Error::LowAboveHigh));
     assert_eq!(filter.learn(backwards), Err(Error::LowAboveHigh));
@@ -101,6 +104,11 @@ fn of_the_filter() {
     assert_eq!(filter.forget(), Err(Error::NothingToForget));
     assert_eq!(filter.state(), Ok(FilterState { levels: 4, room: 6, hand: 0, splits: 0 }));
     let mut words = filter.into_words();
+    words[1] = 16;
+    words.resize(filter_words(16) as usize, 0);
+    assert_eq!(Filter::from_words(words.as_slice()).unwrap_err(), Error::NotAFilter);
+    words[1] = 15;
+    assert_eq!(Filter::from_words(words.as_slice()).unwrap().state().unwrap().room, 15);
     words[3] = 7;
     assert_eq!(Filter::from_words(words).unwrap_err(), Error::NotAFilter);
 }

@@ -186,7 +186,7 @@ fn refused() {
     ask(&w, 0, 0);
     fresh(&mut w, 0, 7);
     fresh(&mut w, 21, 7);
-    fresh(&mut w, 4, 4096);
+    fresh(&mut w, 20, 4096);
     fresh(&mut w, 4, 8);
     fresh(&mut w, 4, 7);
     ask(&w, 0, 16);
@@ -197,10 +197,23 @@ fn refused() {
     departure(&w, 16);
 }
 
+// A fitter's slip, 4 levels and room 4,095: no tree of 4 levels can use more than 15. Words laid out with room 16 are no filter.
+fn swapped() {
+    text(b"swapped settings\n");
+    let mut w = [0u32; 36];
+    fresh(&mut w, 4, 4095);
+    fresh(&mut w, 4, 16);
+    fresh(&mut w, 0, 16);
+    fresh(&mut w, 4, 15);
+    w[1] = 16;
+    ask(&w, 0, 0);
+}
+
 fn main() {
     p9();
     p10();
     p11();
     p12();
     refused();
+    swapped();
 }

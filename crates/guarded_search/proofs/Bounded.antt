@@ -3,7 +3,7 @@ use mathlib.Core.Path.{_≡_, refl, sym, ap, subst, _∙_}
 use mathlib.Core.Bool.{Bool, true, false, _||_}
 use mathlib.Core.Logic.{⊎-elim}
 use mathlib.Core.List.{List, [], _∷_}
-use Prim.Native.Nat.{ℕ, _-_, _*_, _^_, _≤_, _<_}
+use Prim.Native.Nat.{ℕ, _-_, _*_, _^_, min, _≤_, _<_}
 use native.Mathlib.Omega.{arith}
 use lib.IntN.{ℤ, pos}
 use lib.ListN.{length}
@@ -12,6 +12,7 @@ use Rattle.words.specs.Lists.{has, every, different}
 use Rattle.bins.specs.Bins.{readings}
 use Rattle.run_search.specs.Search.{search-by, scan}
 use Rattle.halving_tree.specs.Tree.{treeOf, splits, paint}
+use Rattle.halving_tree.proofs.Smallest.{most-splits}
 use Rattle.range_filter.specs.Layout.{Memory, Filter}
 use Rattle.range_filter.specs.Calls.{tooMany}
 use Rattle.guarded_search.specs.Guarded.{keys, some-in, gap-low, gap-high}
@@ -33,11 +34,11 @@ new-one x xs h = go (has x xs) refl
     go true e = absurd (h e)
     go false e = e
 
--- words that mean m, where m remembers gaps of the column alone and its room is enough for all of them
+-- words that mean m, where m remembers gaps of the column alone and its room is enough for all of them, or for any tree
 pub record State (col : List ℤ) (w : List ℕ) (m : Memory) : Type 0 where
   pub filter : Filter w m
   pub calm : Calm (m .levels) (keys-of m col) (m .set)
-  pub enough : m .levels * different (2 ^ m .levels) (keys-of m col) ≤ m .room
+  pub enough : min (m .levels * different (2 ^ m .levels) (keys-of m col)) (2 ^ m .levels - 1) ≤ m .room
 
 -- what holds of a list of searches that begins with m
 pub record Bounded (col : List ℤ) (m : Memory) (ts : List Turn) : Type 0 where
@@ -71,6 +72,7 @@ module _ (col bs : List ℤ) (is ds : List ℕ) (own : (lo hi : ℕ) → search-
     has-room : tooMany (with-gap col bs is ds lo hi space m) ≡ false
     has-room =
         let n = calm-splits (m .levels) K (paint true a b (m .set)) calm-then in
+        let t = most-splits (m .levels) (paint true a b (m .set)) in
         let e = s .enough in
         le-ltb (m .room) (splits (treeOf (m .levels) (paint true a b (m .set)))) (omega arith)
 

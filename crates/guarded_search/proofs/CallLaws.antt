@@ -29,6 +29,7 @@ use Rattle.range_filter.specs.declared.Learnt.the-variants as taught
 use Rattle.range_filter.specs.declared.Reading.{Reading}
 use Rattle.range_filter.specs.declared.Reading.the-variants as reading
 use Rattle.range_filter.specs.declared.Meaning.{Meaning}
+use Rattle.range_filter.proofs.LayoutLaws.{good-settings}
 use Rattle.range_filter.proofs.Decide.{decide}
 use Rattle.guarded_search.specs.Guarded.{keys, some-in, gap-low, gap-high, gap-learnt, Result, result, guarded}
 use Rattle.guarded_search.specs.Promise.{guard-number, guard-room, of-index, guard-answer, Guards}
@@ -177,7 +178,7 @@ module _ {w : List ℕ} {lo hi : ℕ} (l : Looks w lo hi) where
 
   -- its ends are values of the column's type
   pub looks-small : (lo < 2147483648) × (hi < 2147483648)
-  looks-small = let o = l .order in let k = l .key (l .memory) (l .filter) in let q = pow-mono (l .filter .few-levels) in (omega arith, omega arith)
+  looks-small = let o = l .order in let k = l .key (l .memory) (l .filter) in let q = pow-mono (good-settings w (l .memory) (l .filter) .few-levels) in (omega arith, omega arith)
 
   module _ {h : Meaning} (p : Read w (reading.Means h)) where
     pub read-levels : (m : Memory) → Filter w m → h .levels ≡ m .levels
@@ -185,7 +186,7 @@ module _ {w : List ℕ} {lo hi : ℕ} (l : Looks w lo hi) where
     read-levels m f = ap levels-of (p .meant m f)
 
     pub read-few : h .levels ≤ 20
-    read-few = let e = read-levels (l .memory) (l .filter) in let k = l .filter .few-levels in omega arith
+    read-few = let e = read-levels (l .memory) (l .filter) in let k = good-settings w (l .memory) (l .filter) .few-levels in omega arith
 
     module _ (span : ℕ) (is-span : span ≡ 2 ^ h .levels) (col : List ℤ) (g : Gap) (is-gap : g ≡ narrow-all span lo hi (widest span) col) where
       gap-of-keys : (m : Memory) → Filter w m → g ≡ record { low = gap-low lo (keys (m .levels) col); high = gap-high (2 ^ m .levels - 1) hi (keys (m .levels) col); hidden = some-in lo hi (keys (m .levels) col) }

@@ -1,12 +1,12 @@
 -- The maintainer's three demands, as theorems of the calls' promises. Assumes nothing.
-use mathlib.Core.Path.{_≡_, refl}
+use mathlib.Core.Path.{_≡_, refl, ap}
 use mathlib.Core.Bool.{false}
 use mathlib.Core.List.{List}
-use Prim.Native.Nat.{ℕ, _*_, _^_, _≤_}
+use Prim.Native.Nat.{ℕ, _-_, _*_, _^_, min, _≤_}
 use native.Mathlib.Omega.{arith}
 use lib.Dec.{lit<}
 use lib.IntN.{ℤ, pos}
-use lib.ListN.{length, take}
+use lib.ListN.{length, getD, take}
 use lib.Signed.{ltZ}
 use Rattle.words.specs.Numbers.{numbered, no-filter, most-rows}
 use Rattle.words.specs.Lists.{different}
@@ -27,6 +27,7 @@ use Rattle.column_index.specs.declared.SearchAnswer.the-variants as searching
 use Rattle.column_index.proofs.OwnLaws.{own-scan, builds-own, searches-own, searches-built, searches-no-faults}
 use Rattle.column_index.proofs.AppendLaws.{appends-all, appends-own}
 use Rattle.column_index.proofs.PromiseLaws.{builds-keeps, appends-keeps, packs-keeps, unpacks-keeps, searches-keeps}
+use Rattle.range_filter.specs.Settings.{takes}
 use Rattle.range_filter.specs.Calls.{freshMemory}
 use Rattle.range_filter.specs.Promise.{Fresh, madeNumber, Ask, askedNumber, Learn, learntNumber, Arrive, arrivedNumber, Depart, departedNumber, Forget, forgotNumber, Read, readingNumber}
 use Rattle.range_filter.specs.History.{NoneIn}
@@ -38,6 +39,7 @@ use Rattle.range_filter.specs.declared.Arrived.{Arrived}
 use Rattle.range_filter.specs.declared.Departed.{Departed}
 use Rattle.range_filter.specs.declared.Forgot.{Forgot}
 use Rattle.range_filter.specs.declared.Reading.{Reading}
+use Rattle.range_filter.proofs.LoadLaws.{bad-settings}
 use Rattle.range_filter.proofs.Keeps.{made-filter}
 use Rattle.range_filter.proofs.Never.{ask-not-8, learn-not-8, arrive-not-8, depart-not-8, forget-not-8, read-not-8}
 use Rattle.range_filter.proofs.Only.{fresh-refused, learn-refused, arrive-refused, forget-refused}
@@ -119,6 +121,29 @@ module _ {w : List ℕ} (h : Left-with-both w) where
 
   pub never-8-guarded : {col bs : List ℤ} {is ds : List ℕ} {lo hi : ℕ} {rows w′ rows′ : List ℕ} {r : GuardAnswer} → Guards w col bs is ds lo hi rows r w′ rows′ → guard-number r ≡ numbered no-filter → ⊥
   never-8-guarded p = search-not-8 p (left-filter h .0) (left-filter h .1)
+
+-- words laid out with levels or a room that a fresh filter would not take are 8, whatever the call
+module _ {w : List ℕ} (h : takes (getD w 0 0) (getD w 1 0) ≡ false) where
+  pub not-taken-ask : {r : Asked} (lo hi : ℕ) → Ask w lo hi r → askedNumber r ≡ numbered no-filter
+  not-taken-ask lo hi p = ap askedNumber (p .not-meant (bad-settings w h))
+
+  pub not-taken-learn : {w′ : List ℕ} {r : Learnt} (lo hi : ℕ) → Learn w lo hi r w′ → learntNumber r ≡ numbered no-filter
+  not-taken-learn lo hi p = ap learntNumber (p .told .not-meant (bad-settings w h))
+
+  pub not-taken-arrival : {w′ : List ℕ} {r : Arrived} (x : ℕ) → Arrive w x r w′ → arrivedNumber r ≡ numbered no-filter
+  not-taken-arrival x p = ap arrivedNumber (p .told .not-meant (bad-settings w h))
+
+  pub not-taken-departure : {r : Departed} (x : ℕ) → Depart w x r → departedNumber r ≡ numbered no-filter
+  not-taken-departure x p = ap departedNumber (p .not-meant (bad-settings w h))
+
+  pub not-taken-forget : {w′ : List ℕ} {r : Forgot} → Forget w r w′ → forgotNumber r ≡ numbered no-filter
+  not-taken-forget p = ap forgotNumber (p .told .not-meant (bad-settings w h))
+
+  pub not-taken-read : {r : Reading} → Read w r → readingNumber r ≡ numbered no-filter
+  not-taken-read p = ap readingNumber (p .not-meant (bad-settings w h))
+
+  pub not-taken-guarded : {col bs : List ℤ} {is ds : List ℕ} {lo hi : ℕ} {rows w′ rows′ : List ℕ} {r : GuardAnswer} → Guards w col bs is ds lo hi rows r w′ rows′ → guard-number r ≡ numbered no-filter
+  not-taken-guarded p = ap guard-number (p .kept .told .not-meant (bad-settings w h))
 
 -- ---- DEMAND 2
 
@@ -206,15 +231,15 @@ demand-2-search-denied lo hi n s e c h p = search-denied-empty lo hi n s e c h p
 
 -- ---- DEMAND 3
 
--- An unchanged column; its own index, built from it with the borders it carries; a filter of k levels, as fresh left it, with room for at least k x n splits, where n is the number of
--- different keys of the column; and any list of searches with both, each from the words that the one before left. Then wasted looks are few.
+-- An unchanged column; its own index, built from it with the borders it carries; a filter of k levels, as fresh left it, with room for at least the smaller of k x n and
+-- 2^k - 1 splits, where n is the number of different keys of the column; and any list of searches with both, each from the words that the one before left. Then wasted looks are few.
 pub demand-3 :
     {col bs : List ℤ} {is ds w w′ : List ℕ} {k room : ℕ} {r : Made} (ts : List Turn) →
     InKind readings col →
     Own readings col bs is ds →
     Fresh k room w r w′ →
     madeNumber r ≡ 0 →
-    k * different (2 ^ k) (keys k col) ≤ room →
+    min (k * different (2 ^ k) (keys k col)) (2 ^ k - 1) ≤ room →
     Searching col bs is ds w′ ts →
     Few-wasted (keys k col) (different (2 ^ k) (keys k col)) ts
 demand-3 {col} {bs} {is} {ds} {w} {w′} {k} {room} {r} ts kind o q z enough s =
@@ -234,7 +259,7 @@ pub demand-3-built :
     Builds readings col bs is ds (build.Done b i d) bs′ is′ ds′ →
     Fresh k room w r w′ →
     madeNumber r ≡ 0 →
-    k * different (2 ^ k) (keys k col) ≤ room →
+    min (k * different (2 ^ k) (keys k col)) (2 ^ k - 1) ≤ room →
     Searching col (take b bs′) (take i is′) (take d ds′) w′ ts →
     Few-wasted (keys k col) (different (2 ^ k) (keys k col)) ts
 demand-3-built ts kind p q z enough s = demand-3 ts kind (builds-own p) q z enough s

@@ -1,4 +1,4 @@
--- The examples of document 01 that are to be proved, and the cases of requests 101 and 102, computed. Assumes nothing.
+-- The examples of document 01 that are to be proved, and the cases of requests 101, 102 and 104, computed. Assumes nothing.
 use Prim.Native.Nat.{ℕ}
 use mathlib.Core.Path.{_≡_, refl}
 use mathlib.Core.List.{List}
@@ -18,6 +18,7 @@ use Rattle.halving_tree.specs.Tree.{treeOf}
 use Rattle.guarded_search.specs.Examples.{all-hold, P1-to-P12}
 use Rattle.guarded_search.specs.AppendExamples.{append-cases}
 use Rattle.guarded_search.specs.FaultExamples.{fault-cases}
+use Rattle.guarded_search.specs.SettingExamples.{setting-cases}
 
 -- P1 TO P12 HOLD
 pub examples-hold : all-hold P1-to-P12 ≡ true
@@ -28,6 +29,11 @@ examples-hold = refl
 pub fault-cases-hold : all-hold fault-cases ≡ true
 unfolding share outside sampled sample spread borders-of borders-sorted borders not-above bin imprint imprints matches asked inside mask inner fate entries pack fates search
 fault-cases-hold = refl
+
+-- THE CASES OF LEVELS AND ROOM HOLD
+pub setting-cases-hold : all-hold setting-cases ≡ true
+unfolding treeOf
+setting-cases-hold = refl
 
 -- THE CASES OF APPEND HOLD
 pub append-cases-hold : all-hold append-cases ≡ true

@@ -46,7 +46,7 @@ module _ {w : List ℕ} {col bs : List ℤ} {is ds : List ℕ} {lo hi : ℕ} {ro
       let n : Memory = with-gap col bs is ds lo hi (length rows) m in
       let q : w′ ≡ sets w 0 (layout n) = p .kept .meant-words m f ∙ rw (eq-eqb (guard-number r) 0 z) (ap (λ (x : Memory). sets w 0 (layout x)) e) in
       let g = fit w m f in
-      subst (λ (u : List ℕ). Filter u n) (sym q) (written w n (f .long) (record { some-levels = g .some-levels; few-levels = g .few-levels; small-room = g .small-room; within = ltb-false (m .room) (splits (treeIn n)) t; hand-key = g .hand-key }))
+      subst (λ (u : List ℕ). Filter u n) (sym q) (written w n (f .long) (record { taken = g .taken; within = ltb-false (m .room) (splits (treeIn n)) t; hand-key = g .hand-key }))
 
   pub data Turned : Type 0 where
     same : says-learnt r ≡ false → says-not-learnt r ≡ false → w′ ≡ w → Turned

@@ -68,7 +68,7 @@ p8 =
 abbrev is-empty : Memory → Bool
 is-empty m = run (λ x. not (m .set x)) 0 (2 ^ m .levels)
 
-abbrev splits-are : Memory → ℕ → Bool
+abbrev pub splits-are : Memory → ℕ → Bool
 splits-are m n = eqb (splits (treeIn m)) n
 
 -- where the document names no room it is 7

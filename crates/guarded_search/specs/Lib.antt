@@ -6,4 +6,5 @@ pub mod History
 pub mod Examples
 pub mod AppendExamples
 pub mod FaultExamples
+pub mod SettingExamples
 pub mod loops

@@ -1,10 +1,13 @@
--- The tree of D has its leaves wholly in D or wholly outside, and no such tree has fewer splits. Assumes nothing.
-use mathlib.Core.Path.{_≡_, sym, ap, subst, _∙_}
-use mathlib.Core.Bool.{Bool}
+-- The tree of D has its leaves wholly in D or wholly outside, and no such tree has fewer splits; none has more than 2^k - 1. Assumes nothing.
+use mathlib.Core.Path.{_≡_, refl, sym, ap, subst, _∙_}
+use mathlib.Core.Bool.{Bool, true, false}
 use mathlib.Core.Logic.{⊎-elim}
-use Prim.Native.Nat.{ℕ, _-_, _^_, _≤_}
+use Prim.Native.Nat.{ℕ, zero, suc, _+_, _-_, _^_, _%_, _≤_, _<_}
+use native.Mathlib.Nat.{two-pow-succ}
 use native.Mathlib.Omega.{arith}
-use Rattle.halving_tree.specs.Tree.{Tree, leaf, node, shift, treeOf, splits}
+use lib.Dec.{eqb}
+use lib.Pow.{pow-pos}
+use Rattle.halving_tree.specs.Tree.{Tree, leaf, node, join, shift, treeOf, splits}
 use Rattle.halving_tree.specs.Smallest.{Fits}
 use Rattle.halving_tree.proofs.Laws.{treeOf-ext, treeOf-const, treeOf-down}
 use Rattle.halving_tree.proofs.AskLaws.{leaf-all}
@@ -32,3 +35,35 @@ smallest (leaf b) k D f = omega (arith, ap splits (treeOf-ext k D (λ x. b) f �
 smallest (node l r) k D f =
     let R = shift (2 ^ (k - 1)) D in
     omega (arith, ap splits (treeOf-down k (λ e. let o = f .0 in omega arith) D), join-splits (treeOf (k - 1) D) (treeOf (k - 1) R), smallest l (k - 1) D (f .1), smallest r (k - 1) R (f .2))
+
+-- THE MOST SPLITS of k levels: no halving tree of the keys 0 to 2^k - 1 can use more than 2^k - 1, so the smallest one never has more
+pub usable : (t : Tree) (k : ℕ) (D : ℕ → Bool) → Fits t k D → splits t ≤ 2 ^ k - 1
+usable (leaf b) k D f = omega arith
+usable (node l r) k D f =
+    let o = f .0 in
+    let e : suc (k - 1) ≡ k = omega arith in
+    omega (arith, usable l (k - 1) D (f .1), usable r (k - 1) (shift (2 ^ (k - 1)) D) (f .2), two-pow-succ (k - 1), ap (λ (j : ℕ). 2 ^ j) e, pow-pos (k - 1))
+
+pub most-splits : (k : ℕ) (D : ℕ → Bool) → splits (treeOf k D) ≤ 2 ^ k - 1
+most-splits k D = usable (treeOf k D) k D (tree-fits k D)
+
+-- and some D needs as many: every second key
+abbrev pub comb : ℕ → Bool
+comb x = eqb (x % 2) 1
+
+join-split : (l r : Tree) → 1 ≤ splits l → splits (join l r) ≡ splits l + splits r + 1
+join-split (leaf b) r h = absurd (omega arith)
+join-split (node x y) r h = refl
+
+pub all-used : (k : ℕ) → splits (treeOf k comb) ≡ 2 ^ k - 1
+unfolding treeOf
+all-used zero = refl
+all-used (suc zero) = refl
+all-used (suc (suc k)) =
+    let h = all-used (suc k) in
+    let again : (x : ℕ) → x < 2 ^ suc k → shift (2 ^ suc k) comb x ≡ comb x = λ x _.
+    let m : (2 ^ suc k + x) % 2 ≡ x % 2 = omega (arith, two-pow-succ k) in
+    ap (λ (i : ℕ). eqb i 1) m in
+    let r = ap splits (treeOf-ext (suc k) (shift (2 ^ suc k) comb) comb again) in
+    let p = pow-pos k in
+    omega (arith, join-split (treeOf (suc k) comb) (treeOf (suc k) (shift (2 ^ suc k) comb)) (omega (arith, two-pow-succ k)), two-pow-succ k, two-pow-succ (suc k))

@@ -9,6 +9,7 @@ use native.Mathlib.Omega.{arith}
 use lib.Dec.{eqb}
 use lib.ListN.{length, getD}
 use borrow.Author.Tests.{eqb-true, eqb-false}
+use Rattle.range_filter.specs.Settings.{takes}
 use Rattle.range_filter.specs.Layout.{Memory, Filter}
 use Rattle.halving_tree.specs.loops.Seen.{Saw}
 use Rattle.halving_tree.specs.declared.Seen.{Seen}
@@ -61,7 +62,7 @@ Known w = ((m : Memory) × Filter w m) ⊎ ((m : Memory) → Filter w m → ⊥)
 
 -- the checks of the header, then of the tree
 pub decide : (w : List ℕ) → Known w
-decide w = go (decLt (length w) 3) (decLt k 1) (decLt 20 k) (decLt 4095 room) (decLt (length w) (room * 2 + 1 + 3)) (decLe (2 ^ k) (getD w 2 0))
+decide w = go (decLt (length w) 3) (takes k room) refl (decLt (length w) (room * 2 + 1 + 3)) (decLe (2 ^ k) (getD w 2 0))
   where
     k : ℕ
     k = getD w 0 0
@@ -69,19 +70,17 @@ decide w = go (decLt (length w) 3) (decLt k 1) (decLt 20 k) (decLt 4095 room) (d
     room : ℕ
     room = getD w 1 0
 
-    tree : 1 ≤ k → k ≤ 20 → room ≤ 4095 → room * 2 + 1 + 3 ≤ length w → getD w 2 0 < 2 ^ k → (s : Seen) → Saw w 3 k s → Known w
-    tree a b c d e Bad s = inr (load.bad-tree w s)
-    tree a b c d e (Good n) s = many (decLt (room * 2 + 1) n)
+    tree : takes k room ≡ true → room * 2 + 1 + 3 ≤ length w → getD w 2 0 < 2 ^ k → (s : Seen) → Saw w 3 k s → Known w
+    tree t d e Bad s = inr (load.bad-tree w s)
+    tree t d e (Good n) s = many (decLt (room * 2 + 1) n)
       where
         many : Dec (room * 2 + 1 < n) → Known w
         many (yes lt) = inr (load.bad-many w n s lt)
-        many (no f) = inl (load.meaning w n s, load.good-words w n s a b c d (2 ^ k) refl e (omega arith))
+        many (no f) = inl (load.meaning w n s, load.good-words w n s t d (2 ^ k) refl e (omega arith))
 
-    go : Dec (length w < 3) → Dec (k < 1) → Dec (20 < k) → Dec (4095 < room) → Dec (length w < room * 2 + 1 + 3) → Dec (2 ^ k ≤ getD w 2 0) → Known w
-    go (yes h) b c d e f = inr (load.bad-short w h)
-    go (no a) (yes h) c d e f = inr (load.bad-none w h)
-    go (no a) (no b) (yes h) d e f = inr (load.bad-deep w h)
-    go (no a) (no b) (no c) (yes h) e f = inr (load.bad-room w h)
-    go (no a) (no b) (no c) (no d) (yes h) f = inr (load.bad-long w h)
-    go (no a) (no b) (no c) (no d) (no e) (yes h) = inr (load.bad-hand w (2 ^ k) refl h)
-    go (no a) (no b) (no c) (no d) (no e) (no f) = tree (omega arith) (omega arith) (omega arith) (omega arith) (omega arith) (ruled w k 3 .0) (ruled w k 3 .1)
+    go : Dec (length w < 3) → (t : Bool) → takes k room ≡ t → Dec (length w < room * 2 + 1 + 3) → Dec (2 ^ k ≤ getD w 2 0) → Known w
+    go (yes h) t q d e = inr (load.bad-short w h)
+    go (no a) false q d e = inr (load.bad-settings w q)
+    go (no a) true q (yes h) e = inr (load.bad-long w h)
+    go (no a) true q (no d) (yes h) = inr (load.bad-hand w (2 ^ k) refl h)
+    go (no a) true q (no d) (no e) = tree q (omega arith) (omega arith) (ruled w k 3 .0) (ruled w k 3 .1)

@@ -2,7 +2,7 @@
 use mathlib.Core.Path.{_≡_, refl, sym, ap, subst, _∙_}
 use mathlib.Core.Bool.{Bool, true, false, cond, _||_}
 use mathlib.Core.List.{List, []}
-use Prim.Native.Nat.{ℕ, suc, _^_, _≤_, _<_}
+use Prim.Native.Nat.{ℕ, suc, _^_, _<_}
 use native.Mathlib.Omega.{arith}
 use lib.Dec.{ltb, eqb}
 use lib.ListN.{length}
@@ -10,6 +10,7 @@ use lib.Seq.{sets}
 use lib.Pow.{pow-pos}
 use borrow.Author.Tests.{eq-eqb, eqb-true, eqb-false, ltb-false}
 use Rattle.halving_tree.specs.Tree.{splits, leafLow, leafHigh}
+use Rattle.range_filter.specs.Settings.{badLevels, takes}
 use Rattle.range_filter.specs.Layout.{Memory, treeIn, layout, wordsNeeded, Filter}
 use Rattle.range_filter.specs.Calls.{Choice, split, freshMemory, learnt, tooMany, arrived, keyAfter, without, forgotten}
 use Rattle.range_filter.specs.Promise.{Kept, wordsAfter, outside, Fresh, madeNumber, learntNumber, learnAnswer, Learn, arrivedNumber, Arrive, forgotNumber, Forget}
@@ -51,28 +52,21 @@ kept-filter {w} {number} {next} {r} {w′} k m f room ok = go (eqb (number r) 0)
         rw q (subst (λ (u : List ℕ). Filter u m) (sym e) f)
 
 -- fresh
-made-tests : (a b c d : Bool) (n : ℕ) → madeNumber (cond (a || b) made.Levels (cond c made.Room (cond d (made.Short n) made.Done))) ≡ 0 → (a ≡ false) × (b ≡ false) × (c ≡ false) × (d ≡ false)
-made-tests true b c d n e = absurd (omega arith)
-made-tests false true c d n e = absurd (omega arith)
-made-tests false false true d n e = absurd (omega arith)
-made-tests false false false true n e = absurd (omega arith)
-made-tests false false false false n e = (refl, refl, refl, refl)
+made-tests : (t s b : Bool) (n : ℕ) → madeNumber (cond t (cond s (made.Short n) made.Done) (cond b made.Levels made.Room)) ≡ 0 → (t ≡ true) × (s ≡ false)
+made-tests true true b n e = absurd (omega arith)
+made-tests true false b n e = (refl, refl)
+made-tests false s true n e = absurd (omega arith)
+made-tests false s false n e = absurd (omega arith)
 
-pub fresh-fit : (levels room : ℕ) → 1 ≤ levels → levels ≤ 20 → room ≤ 4095 → Fit (freshMemory levels room)
-fresh-fit levels room a b c = record {
-  some-levels = a;
-  few-levels = b;
-  small-room = c;
-  within = rw (treeOf-const levels false) (omega arith);
-  hand-key = pow-pos levels;
-}
+pub fresh-fit : (levels room : ℕ) → takes levels room ≡ true → Fit (freshMemory levels room)
+fresh-fit levels room t = record { taken = t; within = rw (treeOf-const levels false) (omega arith); hand-key = pow-pos levels }
 
 pub made-filter : {levels room : ℕ} {w w′ : List ℕ} {r : Made} → Fresh levels room w r w′ → madeNumber r ≡ 0 → Filter w′ (freshMemory levels room)
 made-filter {levels} {room} {w} {w′} {r} p z =
-    let t = made-tests (ltb levels 1) (ltb 20 levels) (ltb 4095 room) (ltb (length w) (wordsNeeded room)) (wordsNeeded room) (sym (ap madeNumber (p .answers)) ∙ z) in
+    let t = made-tests (takes levels room) (ltb (length w) (wordsNeeded room)) (badLevels levels) (wordsNeeded room) (sym (ap madeNumber (p .answers)) ∙ z) in
     let m = freshMemory levels room in
     let e : w′ ≡ sets w 0 (layout m) = p .words ∙ changed (madeNumber r) w m z in
-    subst (λ (u : List ℕ). Filter u m) (sym e) (written w m (ltb-false (length w) (wordsNeeded room) (t .3)) (fresh-fit levels room (ltb-false levels 1 (t .0)) (ltb-false 20 levels (t .1)) (ltb-false 4095 room (t .2))))
+    subst (λ (u : List ℕ). Filter u m) (sym e) (written w m (ltb-false (length w) (wordsNeeded room) (t .1)) (fresh-fit levels room (t .0)))
 
 -- learn
 learnt-tests : (a b c : Bool) → learntNumber (cond a taught.NoKey (cond b taught.Order (cond c taught.NoRoom taught.Done))) ≡ 0 → (a ≡ false) × (b ≡ false) × (c ≡ false)
@@ -84,7 +78,7 @@ learnt-tests false false false e = (refl, refl, refl)
 pub learn-fit : (m : Memory) (lo hi : ℕ) → Fit m → learntNumber (learnAnswer lo hi m) ≡ 0 → Fit (learnt m lo hi)
 learn-fit m lo hi f e =
     let t = learnt-tests (outside m lo || outside m hi) (ltb hi lo) (tooMany (learnt m lo hi)) e in
-    record { some-levels = f .some-levels; few-levels = f .few-levels; small-room = f .small-room; within = ltb-false (m .room) (splits (treeIn (learnt m lo hi))) (t .2); hand-key = f .hand-key }
+    record { taken = f .taken; within = ltb-false (m .room) (splits (treeIn (learnt m lo hi))) (t .2); hand-key = f .hand-key }
 
 pub learn-filter : {w w′ : List ℕ} {r : Learnt} (lo hi : ℕ) → Learn w lo hi r w′ → (m : Memory) → Filter w m → Filter w′ (meaningAfter (learntNumber r) (learnt m lo hi) m)
 learn-filter {w} lo hi p m f = kept-filter p m f refl (λ z. learn-fit m lo hi (fit w m f) (sym (ap learntNumber (p .told .meant m f)) ∙ z))
@@ -93,7 +87,7 @@ learn-filter {w} lo hi p m f = kept-filter p m f refl (λ z. learn-fit m lo hi (
 pub arrive-fit : (m : Memory) (x : ℕ) → Fit m → Fit (arrived m x)
 arrive-fit m x f =
     let t = taken (m .levels) (m .set) x (leafLow (treeIn m) (m .levels) x) (leafHigh (treeIn m) (m .levels) x) (record { low = refl; high = refl }) in
-    record { some-levels = f .some-levels; few-levels = f .few-levels; small-room = f .small-room; within = let w = f .within in omega (arith, t .fewer); hand-key = f .hand-key }
+    record { taken = f .taken; within = let w = f .within in omega (arith, t .fewer); hand-key = f .hand-key }
 
 pub arrive-filter : {w w′ : List ℕ} {r : Arrived} (x : ℕ) → Arrive w x r w′ → (m : Memory) → Filter w m → Filter w′ (meaningAfter (arrivedNumber r) (arrived m x) m)
 arrive-filter {w} x p m f = kept-filter p m f refl (λ z. arrive-fit m x (fit w m f))
@@ -116,13 +110,7 @@ by-choice m P stay take = go (walk (treeIn m) (m .levels) (m .hand)) refl
     go (Pair a b) e = subst (λ (c : Choice). P (without m c)) (sym (chosen-pair m a b (sym e))) (take a b (walk-freed (m .levels) (m .set) (m .hand) a b (sym e)))
 
 pub forget-fit : (m : Memory) → Fit m → Fit (forgotten m)
-forget-fit m f = by-choice m Fit f (λ a b t. record {
-  some-levels = f .some-levels;
-  few-levels = f .few-levels;
-  small-room = f .small-room;
-  within = let w = f .within in omega (arith, t .fewer);
-  hand-key = key-after-lt (m .levels) b (t .inside);
-})
+forget-fit m f = by-choice m Fit f (λ a b t. record { taken = f .taken; within = let w = f .within in omega (arith, t .fewer); hand-key = key-after-lt (m .levels) b (t .inside) })
 
 pub forget-room : (m : Memory) → forgotten m .room ≡ m .room
 forget-room m = by-choice m (λ n. n .room ≡ m .room) refl (λ a b t. refl)

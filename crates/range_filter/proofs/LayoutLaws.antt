@@ -1,5 +1,6 @@
 -- A layout in words: it is laid out where it stands, words that are a filter have one meaning, and a layout that is written means what was written. Assumes nothing.
 use mathlib.Core.Path.{_≡_, refl, sym, ap, ap₂, subst, _∙_}
+use mathlib.Core.Bool.{true}
 use mathlib.Core.List.{List, [], _∷_, _++_}
 use Prim.Native.Nat.{ℕ, zero, suc, _+_, _^_, _≤_, _<_}
 use native.Mathlib.Omega.{arith}
@@ -7,6 +8,7 @@ use lib.ListN.{length, getD, take, drop, set}
 use lib.Seq.{sets, sets-eq, length-sets}
 use Rattle.halving_tree.specs.Tree.{treeOf, splits}
 use Rattle.halving_tree.specs.Encode.{size, encode}
+use Rattle.range_filter.specs.Settings.{takes}
 use Rattle.range_filter.specs.Layout.{Memory, treeIn, layout, wordsNeeded, Filter}
 use Rattle.halving_tree.specs.loops.Place.{At}
 use Rattle.halving_tree.proofs.Laws.{at-unique}
@@ -14,6 +16,7 @@ use Rattle.halving_tree.proofs.FormLaws.{size-splits}
 use Rattle.halving_tree.proofs.ListLaws.{length-encode, at-encode}
 use Rattle.halving_tree.proofs.OneTree.{one-tree}
 use Rattle.halving_tree.proofs.RepaintLaws.{at-cast, at-between}
+use Rattle.range_filter.proofs.SettingLaws.{Good, taken-good}
 
 module _ (w : List ℕ) (m : Memory) (f : Filter w m) where
   pub levels-word : getD w 0 0 ≡ m .levels
@@ -24,6 +27,13 @@ module _ (w : List ℕ) (m : Memory) (f : Filter w m) where
 
   pub hand-word : getD w 2 0 ≡ m .hand
   hand-word = ap (λ (l : List ℕ). getD l 2 0) (f .words)
+
+  -- a fresh filter would take the levels and room that the words say, and they are within every bound
+  pub taken-words : takes (getD w 0 0) (getD w 1 0) ≡ true
+  taken-words = ap₂ takes levels-word room-word ∙ f .taken
+
+  pub good-settings : Good (m .levels) (m .room)
+  good-settings = taken-good (m .levels) (m .room) (f .taken)
 
   -- the tree is laid out after the three words
   pub tree-at : At w 3 (treeIn m)
@@ -75,14 +85,12 @@ length-layout m = omega (arith, length-encode (treeIn m))
 
 -- memory that words can hold
 pub record Fit (m : Memory) : Type 0 where
-  pub some-levels : 1 ≤ m .levels
-  pub few-levels : m .levels ≤ 20
-  pub small-room : m .room ≤ 4095
+  pub taken : takes (m .levels) (m .room) ≡ true
   pub within : splits (treeIn m) ≤ m .room
   pub hand-key : m .hand < 2 ^ m .levels
 
 abbrev pub fit : (w : List ℕ) (m : Memory) → Filter w m → Fit m
-fit w m f = record { some-levels = f .some-levels; few-levels = f .few-levels; small-room = f .small-room; within = f .within; hand-key = f .hand-key }
+fit w m f = record { taken = f .taken; within = f .within; hand-key = f .hand-key }
 
 -- a layout that was written is a filter
 pub written : (w : List ℕ) (m : Memory) → wordsNeeded (m .room) ≤ length w → Fit m → Filter (sets w 0 (layout m)) m
@@ -93,9 +101,7 @@ written w m long f =
       long = let l = length-sets w 0 (layout m) in omega arith;
       rest = drop (length (layout m)) w;
       words = sets-eq (layout m) w 0 (omega arith) ∙ ap (λ (i : ℕ). layout m ++ drop i w) z;
-      some-levels = f .some-levels;
-      few-levels = f .few-levels;
-      small-room = f .small-room;
+      taken = f .taken;
       within = f .within;
       hand-key = f .hand-key;
     }

@@ -19,7 +19,7 @@ use Rattle.range_filter.specs.loops.Loaded.{Heads}
 use Rattle.range_filter.specs.declared.Head.{Head}
 use Rattle.halving_tree.specs.declared.Form.{Form}
 use Rattle.halving_tree.proofs.FormLaws.{size-splits, form-splits}
-use Rattle.range_filter.proofs.LayoutLaws.{levels-word, room-word, hand-word}
+use Rattle.range_filter.proofs.LayoutLaws.{levels-word, room-word, hand-word, good-settings}
 use Rattle.range_filter.proofs.PromiseLaws.{tree-here}
 use Rattle.halving_tree.proofs.LeafLaws.{taken}
 use Rattle.range_filter.proofs.ReadLaws.{few-words}
@@ -34,7 +34,7 @@ same-head w m f t =
 
 module _ (w : List ℕ) (h : Head) (m : Memory) (f : Filter w m) (hd : Heads h m) where
   pub levels-few : h .levels ≤ 20
-  levels-few = omega (arith, f .few-levels, hd .levels)
+  levels-few = let g = good-settings w m f .few-levels in omega (arith, hd .levels)
 
   pub span-small : (span : ℕ) → span ≡ 2 ^ h .levels → span < 2000000000
   span-small span e = omega (arith, pow-mono levels-few)

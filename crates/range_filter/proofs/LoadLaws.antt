@@ -1,30 +1,26 @@
 -- The cases of `load`, over plain words. Assumes nothing.
-use mathlib.Core.Path.{_≡_, refl, ap, _∙_}
+use mathlib.Core.Path.{_≡_, refl, sym, ap, _∙_}
+use mathlib.Core.Bool.{true, false}
 use mathlib.Core.List.{List, []}
 use Prim.Native.Nat.{ℕ, _+_, _*_, _^_, _≤_, _<_}
 use native.Mathlib.Omega.{arith}
 use lib.ListN.{length, getD}
 use Rattle.halving_tree.specs.Tree.{treeOf}
 use Rattle.halving_tree.specs.Encode.{size}
+use Rattle.range_filter.specs.Settings.{takes}
 use Rattle.range_filter.specs.Layout.{Memory, treeIn, Filter}
 use Rattle.halving_tree.specs.loops.Seen.{Saw}
 use Rattle.halving_tree.specs.declared.Seen.the-variants.{Bad, Good}
 use Rattle.halving_tree.proofs.Laws.{at-unique}
 use Rattle.halving_tree.proofs.FormLaws.{size-splits}
-use Rattle.range_filter.proofs.LayoutLaws.{levels-word, room-word, hand-word, tree-at-word, begins}
+use Rattle.range_filter.proofs.LayoutLaws.{levels-word, room-word, hand-word, taken-words, tree-at-word, begins}
 
 module _ (w : List ℕ) where
   pub bad-short : length w < 3 → (m : Memory) → Filter w m → ⊥
   bad-short h m f = omega (arith, f .long)
 
-  pub bad-none : getD w 0 0 < 1 → (m : Memory) → Filter w m → ⊥
-  bad-none h m f = omega (arith, levels-word w m f, f .some-levels)
-
-  pub bad-deep : 20 < getD w 0 0 → (m : Memory) → Filter w m → ⊥
-  bad-deep h m f = omega (arith, levels-word w m f, f .few-levels)
-
-  pub bad-room : 4095 < getD w 1 0 → (m : Memory) → Filter w m → ⊥
-  bad-room h m f = omega (arith, room-word w m f, f .small-room)
+  pub bad-settings : takes (getD w 0 0) (getD w 1 0) ≡ false → (m : Memory) → Filter w m → ⊥
+  bad-settings h m f = let e = taken-words w m f in let z : _≡_ {A = ℕ} 0 1 = cc in omega arith
 
   pub bad-long : length w < getD w 1 0 * 2 + 1 + 3 → (m : Memory) → Filter w m → ⊥
   bad-long h m f = omega (arith, room-word w m f, f .long)
@@ -48,16 +44,14 @@ module _ (w : List ℕ) where
     abbrev pub meaning : Memory
     meaning = record { levels = getD w 0 0; room = getD w 1 0; hand = getD w 2 0; set = s .0 }
 
-    pub good-words : 1 ≤ getD w 0 0 → getD w 0 0 ≤ 20 → getD w 1 0 ≤ 4095 → getD w 1 0 * 2 + 1 + 3 ≤ length w → (span : ℕ) → span ≡ 2 ^ getD w 0 0 → getD w 2 0 < span → n ≤ getD w 1 0 * 2 + 1 → Filter w meaning
-    good-words a b c d span e f g =
+    pub good-words : takes (getD w 0 0) (getD w 1 0) ≡ true → getD w 1 0 * 2 + 1 + 3 ≤ length w → (span : ℕ) → span ≡ 2 ^ getD w 0 0 → getD w 2 0 < span → n ≤ getD w 1 0 * 2 + 1 → Filter w meaning
+    good-words t d span e f g =
         let x = begins w meaning (omega arith) refl refl refl (s .1) in
         record {
           long = omega arith;
           rest = x .0;
           words = x .1;
-          some-levels = a;
-          few-levels = b;
-          small-room = c;
+          taken = t;
           within = omega (arith, s .2, size-splits (treeOf (getD w 0 0) (s .0)));
           hand-key = omega arith;
         }

@@ -11,6 +11,7 @@ use Rattle.range_filter.specs.declared.Head.{Head}
 use Rattle.range_filter.specs.declared.Reading.{Reading}
 use Rattle.range_filter.specs.declared.Reading.the-variants.{Means}
 use Rattle.halving_tree.proofs.FormLaws.{size-splits}
+use Rattle.range_filter.proofs.LayoutLaws.{good-settings}
 
 abbrev means : ℕ → ℕ → ℕ → ℕ → Reading
 means a b c d = Means (record { levels = a; room = b; hand = record { 0 = c }; splits = d })
@@ -26,4 +27,4 @@ module _ (h : Head) (m : Memory) (hd : Heads h m) where
 
 -- the tree takes few words
 pub few-words : (w : List ℕ) (h : Head) (m : Memory) → Filter w m → Heads h m → h .n ≤ 8191
-few-words w h m f hd = omega (arith, hd .words, size-splits (treeIn m), f .within, f .small-room)
+few-words w h m f hd = let g = good-settings w m f .small-room in omega (arith, hd .words, size-splits (treeIn m), f .within)

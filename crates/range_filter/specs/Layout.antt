@@ -1,11 +1,12 @@
 -- Document 01, "The filter tree": the words of a filter, and what they mean. Assumes nothing.
 use mathlib.Core.Path.{_≡_}
-use mathlib.Core.Bool.{Bool}
+use mathlib.Core.Bool.{Bool, true}
 use mathlib.Core.List.{List, [], _∷_, _++_}
 use Prim.Native.Nat.{ℕ, _+_, _*_, _^_, _≤_, _<_}
 use lib.ListN.{length}
 use Rattle.halving_tree.specs.Tree.{Tree, treeOf, splits}
 use Rattle.halving_tree.specs.Encode.{encode}
+use Rattle.range_filter.specs.Settings.{takes}
 
 -- what a filter remembers: its levels, its room, its hand, and the set D of the keys remembered as empty
 pub record Memory : Type 0 where
@@ -32,8 +33,6 @@ pub record Filter (w : List ℕ) (m : Memory) : Type 0 where
   pub long : wordsNeeded (m .room) ≤ length w
   pub rest : List ℕ
   pub words : w ≡ layout m ++ rest
-  pub some-levels : 1 ≤ m .levels
-  pub few-levels : m .levels ≤ 20
-  pub small-room : m .room ≤ 4095
+  pub taken : takes (m .levels) (m .room) ≡ true
   pub within : splits (treeIn m) ≤ m .room
   pub hand-key : m .hand < 2 ^ m .levels

@@ -9,6 +9,7 @@ use lib.ListN.{length}
 use lib.Seq.{sets}
 use Rattle.words.specs.Numbers.{numbered, done, low-above-high, space-too-short, bad-levels, no-key, no-filter, no-room, nothing-to-forget, room-too-large}
 use Rattle.halving_tree.specs.Tree.{splits}
+use Rattle.range_filter.specs.Settings.{badLevels, takes}
 use Rattle.range_filter.specs.Layout.{Memory, treeIn, layout, wordsNeeded, Filter}
 use Rattle.range_filter.specs.Calls.{freshMemory, allIn, learnt, tooMany, arrived, single, forgotten}
 use Rattle.range_filter.specs.declared.Made.{Made}
@@ -53,7 +54,7 @@ ofRange noKey order lo hi m a = cond (outside m lo || outside m hi) noKey (cond 
 abbrev pub ofKey : {A : Type 0} → A → ℕ → Memory → A → A
 ofKey noKey x m a = cond (outside m x) noKey a
 
--- fresh: 6, 11, 4 with the words needed beside it; no key is remembered
+-- fresh: levels and room that it would not take are 6, or 11 where the levels are good; then 4 with the words needed beside it; no key is remembered
 abbrev pub madeNumber : Made → ℕ
 madeNumber made.Levels = numbered bad-levels
 madeNumber made.Room = numbered room-too-large
@@ -67,7 +68,7 @@ madeBeside (made.Short n) = n
 madeBeside made.Done = 0
 
 abbrev pub freshAnswer : ℕ → ℕ → ℕ → Made
-freshAnswer levels room len = cond (ltb levels 1 || ltb 20 levels) made.Levels (cond (ltb 4095 room) made.Room (cond (ltb len (wordsNeeded room)) (made.Short (wordsNeeded room)) made.Done))
+freshAnswer levels room len = cond (takes levels room) (cond (ltb len (wordsNeeded room)) (made.Short (wordsNeeded room)) made.Done) (cond (badLevels levels) made.Levels made.Room)
 
 pub record Fresh (levels room : ℕ) (w : List ℕ) (r : Made) (w′ : List ℕ) : Type 0 where
   pub answers : r ≡ freshAnswer levels room (length w)

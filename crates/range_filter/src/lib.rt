@@ -4,10 +4,11 @@ use halving_tree::Node;
 use halving_tree::Seen;
 ghost use mathlib.Core.Path.{_≡_};
 ghost use Prim.Native.Nat.{ℕ, _^_, _≤_, _<_};
+ghost use Rattle.range_filter.specs.Settings.{mostRoom};
 ghost use Rattle.range_filter.specs.Layout.{wordsNeeded};
 ghost use Rattle.range_filter.specs.Calls.{keyAfter};
 ghost use Rattle.range_filter.specs.loops.Loaded.{IsLoaded};
-ghost use Rattle.range_filter.specs.Promise.{Fresh, Ask, Learn, Arrive, Forget, Depart, Read};
+ghost use Rattle.range_filter.specs.Promise.{freshAnswer, Fresh, Ask, Learn, Arrive, Forget, Depart, Read};
 
 // A key of the filter.
 pub struct Key(pub u32);
@@ -32,6 +33,42 @@ fn span_of(k: u32) -> u32
     1u32 << k
 }
 
+// The largest room at so many levels.
+fn most_room(levels: u32) -> u32
+    requires { ⌜ levels ≤ 20 ⌝ }
+    ensures { λ r. ⌜ r ≡ mostRoom levels ⌝ }
+{
+    let usable = span_of(levels) - 1;
+    if usable < 4095 {
+        return usable;
+    }
+    4095
+}
+
+// What making a filter answers.
+pub enum Made {
+    Levels,
+    Room,
+    Short(u32),
+    Done,
+}
+
+// What making a filter answers where the words are enough: 6, then 11. Acceptance asks the same of the words it is lent.
+fn settled(levels: u32, room: u32) -> Made
+    ensures { λ r. ⌜ r ≡ freshAnswer levels room (wordsNeeded room) ⌝ }
+{
+    if levels < 1 {
+        return Made::Levels;
+    }
+    if 20 < levels {
+        return Made::Levels;
+    }
+    if most_room(levels) < room {
+        return Made::Room;
+    }
+    Made::Done
+}
+
 // The filter's header and its tree's words, or that the words are no filter.
 fn load(w: &[u32]) -> Loaded
     ensures { λ r. ⌜ IsLoaded (now (w .entry)) r ⌝ }
@@ -42,15 +79,9 @@ fn load(w: &[u32]) -> Loaded
     let levels = w[0];
     let room = w[1];
     let hand = w[2];
-    if levels < 1 {
+    let Made::Done = settled(levels, room) else {
         return Loaded::Bad;
-    }
-    if 20 < levels {
-        return Loaded::Bad;
-    }
-    if 4095 < room {
-        return Loaded::Bad;
-    }
+    };
     let most = room as usize * 2 + 1;
     if w.len() < most + 3 {
         return Loaded::Bad;
@@ -72,14 +103,6 @@ fn load(w: &[u32]) -> Loaded
     })
 }
 
-// What making a filter answers.
-pub enum Made {
-    Levels,
-    Room,
-    Short(u32),
-    Done,
-}
-
 // The words needed for a room.
 fn needed(room: u32) -> u32
     requires { ⌜ room ≤ 4095 ⌝ }
@@ -93,15 +116,10 @@ fn needed(room: u32) -> u32
 pub fn fresh(levels: u32, room: u32, w: &mut [u32]) -> Made
     ensures { λ r. ⌜ Fresh levels room (now (w .entry)) r (now (w .exit)) ⌝ }
 {
-    if levels < 1 {
-        return Made::Levels;
-    }
-    if 20 < levels {
-        return Made::Levels;
-    }
-    if 4095 < room {
-        return Made::Room;
-    }
+    let answer = settled(levels, room);
+    let Made::Done = answer else {
+        return answer;
+    };
     let n = needed(room);
     if w.len() < n as usize {
         return Made::Short(n);

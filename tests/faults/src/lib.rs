@@ -336,16 +336,37 @@ fn store(words: &mut [u32], answer: &Result<Filter, No>) -> u32 {
 #[no_mangle]
 pub unsafe extern "C" fn mgz_filter_fresh(levels: u32, room: u32, words: *mut u32, w: usize, out: *mut u64) -> u32 {
     let mut answer = plain::fresh(levels, room, w);
-    if fault("fresh-11-before-6") && 4095 < room {
+    if fault("fresh-11-before-6") && plain::most_room(levels) < room {
         answer = Err(No::of(11));
+    }
+    if fault("fresh-11-at-the-most") && number(&answer) != 6 && plain::most_room(levels) == room {
+        answer = Err(No::of(11));
+    }
+    if fault("fresh-4-before-11") && number(&answer) == 11 && (w as u64) < plain::filter_words(room) {
+        answer = Err(No::short(plain::filter_words(room) as usize));
+    }
+    if fault("fresh-takes-an-unusable-room") && number(&answer) == 11 && room <= plain::ROOM_AT_MOST {
+        answer = plain::fresh(20, room, w).map(|filter| Filter { levels, ..filter });
     }
     unsafe { *out = needed(&answer) };
     store(unsafe { lent(words, w) }, &answer)
 }
 
+/// Words that acceptance by 4,095 alone would take, with the room lowered to what a tree of their levels can use.
+fn lowered(words: &[u32]) -> Option<Vec<u32>> {
+    let &[levels, room, ..] = words else { return None };
+    let most = plain::most_room(levels);
+    let unusable = most < room && room <= plain::ROOM_AT_MOST && plain::filter_words(room) <= words.len() as u64;
+    unusable.then(|| [&[levels, most], &words[2..]].concat())
+}
+
 #[no_mangle]
 pub unsafe extern "C" fn mgz_filter_ask(words: *const u32, w: usize, low: u32, high: u32, look: *mut u32) -> u32 {
-    let mut answer = plain::ask(unsafe { read(words, w) }, low, high);
+    let words = unsafe { read(words, w) };
+    let mut answer = plain::ask(words, low, high);
+    if let (true, Some(words)) = (fault("unusable-room-asked"), lowered(words)) {
+        answer = plain::ask(&words, low, high);
+    }
     if fault("never-denies") && answer == Ok(false) {
         answer = Ok(true);
     }
@@ -408,6 +429,9 @@ pub unsafe extern "C" fn mgz_filter_read(words: *const u32, w: usize, out: *mut 
         longer.resize(w + 2, 0);
         answer = plain::read(&longer);
     }
+    if let (true, Some(words)) = (fault("unusable-room-read"), lowered(words)) {
+        answer = plain::read(&words);
+    }
     unsafe { lent(out, 4) }.copy_from_slice(answer.as_ref().unwrap_or(&[0; 4]));
     number(&answer)
 }
@@ -433,6 +457,9 @@ pub unsafe extern "C" fn mgz_guarded_search(
     let (words, column, ids, out) = unsafe { (lent(words, w), read(column, n), lent(ids, m), lent(out, 6)) };
     let (borders, imprints, dictionary) = unsafe { (read(borders, b), read(imprints, i), read(dictionary, d)) };
     let mut answer = plain::guarded(words, column, borders, imprints, dictionary, low, high, m);
+    if let (true, Some(words)) = (fault("unusable-room-searched"), lowered(words)) {
+        answer = plain::guarded(&words, column, borders, imprints, dictionary, low, high, m);
+    }
     if let Ok((outcome, _)) = &mut answer {
         if fault("gap-is-the-range") && outcome.number() == 2 {
             if let Ok(filter) = plain::learn(words, low, high) {

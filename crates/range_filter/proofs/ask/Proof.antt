@@ -2,12 +2,12 @@
 use mathlib.Core.Path.{ap, sym, subst, _∙_}
 use mathlib.Core.Bool.{Bool, cond}
 use denote.Ref.{now}
-use native.Mathlib.Omega.{arith}
 use Rattle.range_filter.specs.Calls.{allIn}
 use Rattle.range_filter.specs.loops.Loaded.{IsLoaded}
 use Rattle.range_filter.specs.Promise.{askAnswer}
 use Rattle.range_filter.specs.declared.Asked.the-variants as asked
 use Rattle.range_filter.proofs.PromiseLaws.{told-bad, told-good, span-is, low-outside, high-outside, out-of-order, in-order, says-is, tree-here}
+use Rattle.range_filter.proofs.LearnLaws.{levels-few}
 use borrow.Author.Needs.{needs}
 use Rattle.range_filter.proofs.ask.Statement.{statement}
 use Rattle.range_filter.proofs.ask.Tie as tie
@@ -33,7 +33,7 @@ span-of-requires c κs =
     let s = k .before .before .before .before .before in
     let w = now (s .args .w) in
     let ld = subst (IsLoaded w) (k .before .h .given .1) (k .before .before .before .load .ensures) in
-    omega (arith, ld .1 .few-levels, ld .2 (ld .0) (ld .1) .levels)
+    levels-few w (k .before .h .given .0 .0) (ld .0) (ld .1) (ld .2 (ld .0) (ld .1))
 
 returns-2 : tie.Need-returns-2
 returns-2 c =

@@ -1,11 +1,11 @@
 -- `departure` meets its contract: each return by the tests that led there. Assumes nothing.
 use mathlib.Core.Path.{subst}
 use denote.Ref.{now}
-use native.Mathlib.Omega.{arith}
 use Rattle.range_filter.specs.loops.Loaded.{IsLoaded}
 use Rattle.range_filter.specs.Promise.{departAnswer}
 use Rattle.range_filter.specs.declared.Departed.the-variants as departed
 use Rattle.range_filter.proofs.PromiseLaws.{told-bad, told-good, span-is, key-outside, key-inside}
+use Rattle.range_filter.proofs.LearnLaws.{levels-few}
 use borrow.Author.Needs.{needs}
 use Rattle.range_filter.proofs.departure.Statement.{statement}
 use Rattle.range_filter.proofs.departure.Tie as tie
@@ -31,7 +31,7 @@ span-of-requires c κs =
     let s = k .before .before .before .before .before in
     let w = now (s .args .w) in
     let ld = subst (IsLoaded w) (k .before .h .given .1) (k .before .before .before .load .ensures) in
-    omega (arith, ld .1 .few-levels, ld .2 (ld .0) (ld .1) .levels)
+    levels-few w (k .before .h .given .0 .0) (ld .0) (ld .1) (ld .2 (ld .0) (ld .1))
 
 returns-2 : tie.Need-returns-2
 returns-2 c =
