@@ -41,7 +41,8 @@ fn fresh() {
 #[test]
 fn swapped_settings() {
     let number = |levels, room, length| held::fresh(levels, room, &mut vec![7; length]).err().map_or(0, |no| no.number);
-    let wanted = [(4, 15, 0), (4, 16, 11), (4, 4095, 11), (1, 1, 0), (1, 2, 11), (11, 2047, 0), (11, 2048, 11), (12, 4095, 0), (20, 4096, 11)];
+    let wanted =
+        [(4, 15, 0), (4, 16, 11), (4, 4095, 11), (1, 1, 0), (1, 2, 11), (11, 2047, 0), (11, 2048, 11), (12, 4095, 0), (20, 4096, 11)];
     for (levels, room, wanted) in wanted {
         assert_eq!(number(levels, room, 8200), wanted, "levels {levels}, room {room}");
     }

@@ -97,7 +97,9 @@ impl fmt::Display for Error {
             Error::NotAFilter => write!(f, "the words are no filter"),
             Error::NoRoom => write!(f, "learning needs more splits than the filter has room for"),
             Error::NothingToForget => write!(f, "there is nothing to forget"),
-            Error::RoomTooLarge => write!(f, "the room is above 4,095, or above 2^levels - 1, which is all that a tree of so many levels can use"),
+            Error::RoomTooLarge => {
+                write!(f, "the room is above 4,095, or above 2^levels - 1, which is all that a tree of so many levels can use")
+            }
             Error::NegativeMinute { row } => write!(f, "the minute in row {row} is negative"),
             Error::CoveredAboveRows => write!(f, "the index covers more rows than the column has"),
         }

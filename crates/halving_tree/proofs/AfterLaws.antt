@@ -11,11 +11,12 @@ use Rattle.halving_tree.specs.loops.Form.{formOf, splitsOf, joinForm, La
 use Rattle.halving_tree.specs.declared.Form.{Form}
 use Rattle.halving_tree.proofs.AskLaws.{half-is}
 use Rattle.halving_tree.proofs.PaintLaws.{paint-whole, paint-parts}
-use Rattle.halving_tree.proofs.FormLaws.{size-splits, splits-lt, form-splits, form-join}
+use Rattle.halving_tree.proofs.FormLaws.{size-splits, form-splits, form-join}
+use Rattle.halving_tree.proofs.Smallest.{most-splits}
 
 -- a tree of at most 20 levels has few splits
 pub few-splits : (k : ℕ) (D : ℕ → Bool) → k ≤ 20 → splits (treeOf k D) < 1048576
-few-splits k D le = omega (arith, splits-lt k D, pow-mono le)
+few-splits k D le = omega (arith, most-splits k D, pow-pos k, pow-mono le)
 
 module _ {w : List ℕ} {p n k span hi : ℕ} (here : Spot w p n k span hi) where
   pub span-pos : 0 < span

@@ -3,7 +3,6 @@ use mathlib.Core.Path.{_≡_, refl, sym, ap, subst, _∙_}
 use mathlib.Core.Bool.{Bool, true, false}
 use mathlib.Core.List.{List}
 use Prim.Native.Nat.{ℕ, zero, suc, _+_, _-_, _/_, _^_, _≤_, _<_}
-use native.Mathlib.Nat.{two-pow-succ}
 use native.Mathlib.Omega.{arith}
 use lib.ListN.{length, getD}
 use Rattle.halving_tree.specs.Tree.{Tree, leaf, node, join, shift, treeOf, splits}
@@ -26,11 +25,6 @@ join-splits (leaf false) (leaf true) = omega arith
 join-splits (leaf false) (leaf false) = omega arith
 join-splits (leaf a) (node x y) = omega arith
 join-splits (node x y) r = omega arith
-
-pub splits-lt : (k : ℕ) (D : ℕ → Bool) → splits (treeOf k D) < 2 ^ k
-unfolding treeOf
-splits-lt zero D = omega arith
-splits-lt (suc k) D = omega (arith, two-pow-succ k, join-splits (treeOf k D) (treeOf k (shift (2 ^ k) D)), splits-lt k D, splits-lt k (shift (2 ^ k) D))
 
 pub form-splits : (t : Tree) → splitsOf (formOf t) ≡ splits t
 form-splits (leaf true) = refl

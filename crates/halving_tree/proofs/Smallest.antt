@@ -1,6 +1,6 @@
 -- The tree of D has its leaves wholly in D or wholly outside, and no such tree has fewer splits; none has more than 2^k - 1. Assumes nothing.
 use mathlib.Core.Path.{_≡_, refl, sym, ap, subst, _∙_}
-use mathlib.Core.Bool.{Bool, true, false}
+use mathlib.Core.Bool.{Bool}
 use mathlib.Core.Logic.{⊎-elim}
 use Prim.Native.Nat.{ℕ, zero, suc, _+_, _-_, _^_, _%_, _≤_, _<_}
 use native.Mathlib.Nat.{two-pow-succ}
@@ -48,22 +48,25 @@ pub most-splits : (k : ℕ) (D : ℕ → Bool) → splits (treeOf k D) ≤ 2 ^ k
 most-splits k D = usable (treeOf k D) k D (tree-fits k D)
 
 -- and some D needs as many: every second key
-abbrev pub comb : ℕ → Bool
+abbrev comb : ℕ → Bool
 comb x = eqb (x % 2) 1
 
 join-split : (l r : Tree) → 1 ≤ splits l → splits (join l r) ≡ splits l + splits r + 1
 join-split (leaf b) r h = absurd (omega arith)
 join-split (node x y) r h = refl
 
-pub all-used : (k : ℕ) → splits (treeOf k comb) ≡ 2 ^ k - 1
+comb-splits : (k : ℕ) → splits (treeOf k comb) ≡ 2 ^ k - 1
 unfolding treeOf
-all-used zero = refl
-all-used (suc zero) = refl
-all-used (suc (suc k)) =
-    let h = all-used (suc k) in
-    let again : (x : ℕ) → x < 2 ^ suc k → shift (2 ^ suc k) comb x ≡ comb x = λ x _.
-    let m : (2 ^ suc k + x) % 2 ≡ x % 2 = omega (arith, two-pow-succ k) in
-    ap (λ (i : ℕ). eqb i 1) m in
-    let r = ap splits (treeOf-ext (suc k) (shift (2 ^ suc k) comb) comb again) in
+comb-splits zero = refl
+comb-splits (suc zero) = refl
+comb-splits (suc (suc k)) =
+    let h = comb-splits (suc k) in
     let p = pow-pos k in
+    let r = ap splits (treeOf-ext (suc k) (shift (2 ^ suc k) comb) comb again) in
     omega (arith, join-split (treeOf (suc k) comb) (treeOf (suc k) (shift (2 ^ suc k) comb)) (omega (arith, two-pow-succ k)), two-pow-succ k, two-pow-succ (suc k))
+  where
+    again : (x : ℕ) → x < 2 ^ suc k → shift (2 ^ suc k) comb x ≡ comb x
+    again x _ = let m : (2 ^ suc k + x) % 2 ≡ x % 2 = omega (arith, two-pow-succ k) in ap (λ (i : ℕ). eqb i 1) m
+
+pub all-used : (k : ℕ) → (D : ℕ → Bool) × (splits (treeOf k D) ≡ 2 ^ k - 1)
+all-used k = (comb, comb-splits k)

@@ -9,7 +9,7 @@ use lib.ListN.{length, set}
 use lib.Seq.{sets}
 use types.Run.{OneOf}
 use denote.Enum.Declared.{tagOf}
-use borrow.Author.Tests.{lt-ltb, le-ltb, le-leb, lt-leb}
+use borrow.Author.Tests.{lt-ltb, le-ltb, lt-leb}
 use Rattle.halving_tree.specs.Tree.{Tree}
 use Rattle.halving_tree.specs.Encode.{encode}
 use Rattle.range_filter.specs.Settings.{badLevels, mostRoom, takes}
@@ -21,7 +21,7 @@ use Rattle.range_filter.specs.declared.Made.the-variants.{Levels, Room, 
 use Rattle.range_filter.proofs.Made.{the-type}
 use Rattle.halving_tree.proofs.Laws.{treeOf-const}
 use Rattle.range_filter.proofs.PromiseLaws.{or-true}
-use Rattle.range_filter.proofs.SettingLaws.{Good, taken-good}
+use Rattle.range_filter.proofs.SettingLaws.{Good, taken-good, good-taken}
 
 -- a fresh filter's words: the header and one leaf
 pub fresh-layout : (levels room : ℕ) → layout (freshMemory levels room) ≡ levels ∷ room ∷ 0 ∷ 0 ∷ []
@@ -43,7 +43,7 @@ module _ (levels room : ℕ) where
     too-large h = rw (le-ltb levels 1 a, le-ltb 20 levels b, lt-leb room (mostRoom levels) h)
 
     pub all-taken : room ≤ mostRoom levels → Done ≡ settling levels room
-    all-taken h = rw (le-ltb levels 1 a, le-ltb 20 levels b, le-leb room (mostRoom levels) h, le-ltb (wordsNeeded room) (wordsNeeded room) (omega arith))
+    all-taken h = rw (good-taken levels room (record { some-levels = a; few-levels = b; small-room = omega arith; usable-room = omega arith }), le-ltb (wordsNeeded room) (wordsNeeded room) (omega arith))
 
   -- fresh takes them where it is done with them
   pub done-taken : (r : Made) → r ≡ settling levels room → r ≡ Done → takes levels room ≡ true

@@ -1,13 +1,12 @@
--- Levels and room that a fresh filter would take, in bounds; and those that it would not take are refused with 8 in words, whatever the call. Assumes nothing.
+-- Levels and room that a fresh filter would take are those within these bounds. Assumes nothing.
 use mathlib.Core.Path.{_≡_, refl}
 use mathlib.Core.Bool.{Bool, true, false, not, _&&_, _||_}
-use Prim.Native.Nat.{ℕ, _-_, _^_, _≤_, _<_}
+use Prim.Native.Nat.{ℕ, _-_, _^_, _≤_}
 use native.Mathlib.Omega.{arith}
 use lib.Dec.{ltb, leb}
 use borrow.Author.Tests.{le-ltb, ltb-false, le-leb, leb-true}
 use Rattle.range_filter.specs.Settings.{mostRoom, takes}
 
--- within every bound
 pub record Good (k room : ℕ) : Type 0 where
   pub some-levels : 1 ≤ k
   pub few-levels : k ≤ 20
@@ -25,5 +24,8 @@ taken-good k room e =
     let r = leb-true room (mostRoom k) (t .2) in
     record { some-levels = ltb-false k 1 (t .0); few-levels = ltb-false 20 k (t .1); small-room = omega arith; usable-room = omega arith }
 
-pub good-taken : (k room : ℕ) → 1 ≤ k → k ≤ 20 → room ≤ mostRoom k → takes k room ≡ true
-good-taken k room a b c = rw (le-ltb k 1 a, le-ltb 20 k b, le-leb room (mostRoom k) c)
+pub good-taken : (k room : ℕ) → Good k room → takes k room ≡ true
+good-taken k room g =
+    let s = g .small-room in
+    let u = g .usable-room in
+    rw (le-ltb k 1 (g .some-levels), le-ltb 20 k (g .few-levels), le-leb room (mostRoom k) (omega arith))

@@ -33,42 +33,6 @@ fn span_of(k: u32) -> u32
     1u32 << k
 }
 
-// The largest room at so many levels.
-fn most_room(levels: u32) -> u32
-    requires { ⌜ levels ≤ 20 ⌝ }
-    ensures { λ r. ⌜ r ≡ mostRoom levels ⌝ }
-{
-    let usable = span_of(levels) - 1;
-    if usable < 4095 {
-        return usable;
-    }
-    4095
-}
-
-// What making a filter answers.
-pub enum Made {
-    Levels,
-    Room,
-    Short(u32),
-    Done,
-}
-
-// What making a filter answers where the words are enough: 6, then 11. Acceptance asks the same of the words it is lent.
-fn settled(levels: u32, room: u32) -> Made
-    ensures { λ r. ⌜ r ≡ freshAnswer levels room (wordsNeeded room) ⌝ }
-{
-    if levels < 1 {
-        return Made::Levels;
-    }
-    if 20 < levels {
-        return Made::Levels;
-    }
-    if most_room(levels) < room {
-        return Made::Room;
-    }
-    Made::Done
-}
-
 // The filter's header and its tree's words, or that the words are no filter.
 fn load(w: &[u32]) -> Loaded
     ensures { λ r. ⌜ IsLoaded (now (w .entry)) r ⌝ }
@@ -101,6 +65,42 @@ fn load(w: &[u32]) -> Loaded
         hand: Key(hand),
         n,
     })
+}
+
+// What making a filter answers.
+pub enum Made {
+    Levels,
+    Room,
+    Short(u32),
+    Done,
+}
+
+// The largest room at so many levels: a tree has fewer splits than keys.
+fn most_room(levels: u32) -> u32
+    requires { ⌜ levels ≤ 20 ⌝ }
+    ensures { λ r. ⌜ r ≡ mostRoom levels ⌝ }
+{
+    let usable = span_of(levels) - 1;
+    if usable < 4095 {
+        return usable;
+    }
+    4095
+}
+
+// What making a filter answers where the words are enough: 6, then 11. Acceptance asks the same of the words it is lent.
+fn settled(levels: u32, room: u32) -> Made
+    ensures { λ r. ⌜ r ≡ freshAnswer levels room (wordsNeeded room) ⌝ }
+{
+    if levels < 1 {
+        return Made::Levels;
+    }
+    if 20 < levels {
+        return Made::Levels;
+    }
+    if most_room(levels) < room {
+        return Made::Room;
+    }
+    Made::Done
 }
 
 // The words needed for a room.
