@@ -57,5 +57,5 @@ pub const LINES_AT_MOST: usize = 1_048_576;
 pub const BORDERS_AT_MOST: usize = 63;
 /// The most levels that a filter has.
 pub const LEVELS_AT_MOST: u32 = 20;
-/// The most splits that a filter has room for.
+/// The most splits that a filter has room for. One of k levels has room for 2^k - 1 at most.
 pub const ROOM_AT_MOST: u32 = 4_095;
