@@ -1,7 +1,8 @@
-//! Build and search beside an ordinary Rust scan, append beside build, the register beside a plain loop, in one run, as ratios. Prints tables in
-//! markdown; its progress goes to standard error.
+//! Search beside an ordinary Rust scan, build beside the same loop by hand, append beside build, the register beside a plain loop, in one run,
+//! as ratios. Prints tables in markdown; its progress goes to standard error.
 //! `MGZ_BENCH_ROWS`, `MGZ_BENCH_REPS` and `MGZ_BENCH_CALLS` make it shorter or longer.
 mod appends;
+mod builds;
 mod filters;
 mod inputs;
 mod registers;
@@ -112,6 +113,7 @@ fn main() {
     let mut spaces = Spaces { ids: vec![1; rows], scanned: Vec::with_capacity(rows) };
     println!("{rows} rows, best of {reps}, processor time; {}.\n", machine());
     let (mut built, mut appended, mut guarded) = (String::new(), String::new(), String::new());
+    let (mut by_hand, mut shares) = (String::new(), String::new());
     println!("| column | range hits | rows | search, ms | scan, ms | search / scan | lines skipped / whole / compared |");
     println!("|---|---|---|---|---|---|---|");
     for name in inputs::COLUMNS {
@@ -132,6 +134,10 @@ fn main() {
         let share = 100.0 * bytes as f64 / (4 * rows) as f64;
         let per_row = best * 1e9 / rows as f64;
         built += &format!("| {name} | {:.1} | {per_row:.2} | {:.1} | {share:.3}% |\n", best * 1e3, best / least);
+        eprintln!("{name}: building beside loops by hand, {reps} times");
+        let (beside, parts) = builds::measure(name, &column, reps);
+        by_hand += &beside;
+        shares += &parts;
         eprintln!("{name}: appending an hour, {reps} times");
         appended += &appends::measure(name, &column, best, reps);
         for (percent, of_million) in [("0.001%", 10), ("0.1%", 1_000), ("0.9%", 9_000), ("10%", 100_000), ("50%", 500_000)] {
@@ -147,6 +153,10 @@ fn main() {
     println!("\n| column | build, ms | ns per row | build / scan of an empty range | index, of the column |");
     println!("|---|---|---|---|---|");
     println!("{built}");
+    println!("{}\n{by_hand}", builds::heading());
+    println!("| column | sampling and sorting, of the build | packing by its own call, of the build |");
+    println!("|---|---|---|");
+    println!("{shares}");
     println!("| column, all but its last 60 rows indexed | append, ms | build anew, ms | append / build | |");
     println!("|---|---|---|---|---|");
     println!("{appended}");

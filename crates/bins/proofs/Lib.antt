@@ -6,3 +6,4 @@ pub mod LineLaws
 pub mod SortLaws
 pub mod SampleLaws
 pub mod FaultLaws
+pub mod LadderLaws

@@ -7,6 +7,7 @@ ghost use Rattle.words.specs.Bits.{word};
 ghost use Rattle.words.specs.Numbers.{most-rows};
 ghost use Rattle.bins.specs.Bins.{stride};
 ghost use Rattle.bins.specs.Masks.{fate};
+ghost use Rattle.bins.specs.loops.Ladder.{place};
 
 // A line's number: never a row's.
 pub struct Line(pub usize);
@@ -28,6 +29,30 @@ pub fn stride_of(rows: usize) -> usize
     } else {
         (rows + 2047) / 2048
     }
+}
+
+// Where a node of the search tree stands on the ladder.
+pub fn place_of(node: usize) -> usize
+    requires { ⌜ node < 64 ⌝ }
+    ensures at { λ r. ⌜ r ≡ place node ⌝ }
+    ensures few { λ r. ⌜ r < 63 ⌝ }
+{
+    if 32 <= node {
+        return 2 * node - 64;
+    }
+    if 16 <= node {
+        return 4 * node - 63;
+    }
+    if 8 <= node {
+        return 8 * node - 61;
+    }
+    if 4 <= node {
+        return 16 * node - 57;
+    }
+    if 2 <= node {
+        return 32 * node - 49;
+    }
+    31
 }
 
 // The word with the n lowest bits set. At n = 64 a shift by n would be undefined.

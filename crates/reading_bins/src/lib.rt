@@ -1,13 +1,12 @@
-// Bins and line imprints of readings, and the masks of a range.
-use bins::Line;
+// Bins of readings, and the masks of a range.
 ghost use mathlib.Core.Path.{_≡_};
-ghost use Prim.Native.Nat.{_*_, _≤_};
+ghost use Prim.Native.Nat.{_≤_};
 ghost use mathlib.Core.Bool.{cond, _&&_};
 ghost use lib.Dec.{leb};
 ghost use lib.IntN.{sucℤ, predℤ};
 ghost use lib.Signed.{leZ};
-ghost use lib.ListN.{length, take, drop};
-ghost use Rattle.bins.specs.Bins.{readings, fault, not-above, bin, bins, imprint, rising, good-borders};
+ghost use lib.ListN.{length};
+ghost use Rattle.bins.specs.Bins.{readings, fault, not-above, bin, bins, rising, good-borders};
 ghost use Rattle.bins.specs.Masks.{matches, mask, inner, first-of, last-of};
 
 pub mod borders;
@@ -45,36 +44,6 @@ pub fn bin_count(borders: &[i32]) -> u32
     ensures { λ r. ⌜ r ≡ bins (now (borders .entry)) ⌝ }
 {
     (borders.len() + 1) as u32
-}
-
-// The imprint of a line's rows: bit b is set exactly when some row is in bin b.
-pub fn line_imprint(rows: &[i32], borders: &[i32]) -> u64
-    requires { ⌜ length (now borders) ≤ 63 ⌝ }
-    ensures { λ r. ⌜ r ≡ imprint readings (now (borders .entry)) (now (rows .entry)) ⌝ }
-{
-    let mut word: u64 = 0;
-    let mut i: usize = 0;
-    while i < rows.len() {
-        let b = bin_of(borders, rows[i]);
-        word |= 1u64 << b;
-        i += 1;
-    }
-    word
-}
-
-// The imprint of a line of a column.
-pub fn imprint_at(column: &[i32], line: Line, borders: &[i32]) -> u64
-    requires { ⌜ length (now borders) ≤ 63 ⌝ }
-    requires { ⌜ readings .per * (line .0) ≤ length (now column) ⌝ }
-    ensures { λ r. ⌜ r ≡ imprint readings (now (borders .entry)) (take (readings .per) (drop (readings .per * (line .0)) (now (column .entry)))) ⌝ }
-{
-    let c = line.0;
-    let from = kind::PER * c;
-    if kind::PER <= column.len() - from {
-        line_imprint(&column[from..from + kind::PER], borders)
-    } else {
-        line_imprint(&column[from..], borders)
-    }
 }
 
 // The mask of the closed range low to high.

@@ -4,6 +4,8 @@ use column_index::Spaces;
 use dictionary::packing::Lengths;
 use dictionary::packing::Packer;
 use reading_bins::kind::PER;
+use reading_imprints::imprint_at;
+use reading_imprints::tree::tree_of;
 ghost use mathlib.Core.Path.{_≡_};
 ghost use Prim.Native.Nat.{_+_, _^_, _<_, _≤_};
 ghost use lib.ListN.{length};
@@ -33,10 +35,11 @@ fn measure_lines(column: &[i32], borders: &[i32], before: Packer, first: Line) -
     ensures { λ r. ⌜ r .dictionary ≡ words-then largest before (imprints-from readings (now (borders .entry)) (now (column .entry)) (first .0)) ⌝ }
 {
     let lines = line_count(column.len());
+    let nodes = tree_of(borders);
     let mut measuring = before;
     let mut i: usize = first.0;
     while i < lines {
-        measuring = measuring.counted(reading_bins::imprint_at(column, Line(i), borders));
+        measuring = measuring.counted(imprint_at(column, Line(i), borders, &nodes));
         i += 1;
     }
     let dictionary = measuring.ends();
@@ -64,10 +67,11 @@ fn write_lines(
     ensures { λ r. ⌜ r .dictionary ≡ words-then largest before (imprints-from readings (now (borders .entry)) (now (column .entry)) (first .0)) ⌝ }
 {
     let lines = line_count(column.len());
+    let nodes = tree_of(borders);
     let mut packer = before;
     let mut i: usize = first.0;
     while i < lines {
-        let imprint = reading_bins::imprint_at(column, Line(i), borders);
+        let imprint = imprint_at(column, Line(i), borders, &nodes);
         packer = packer.pushed(imprint, imprints, dictionary);
         i += 1;
     }

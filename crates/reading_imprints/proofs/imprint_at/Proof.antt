@@ -1,4 +1,4 @@
--- `reading_bins::imprint_at` meets its contract. Assumes nothing.
+-- `reading_imprints::imprint_at` meets its contract. Assumes nothing.
 use mathlib.Core.Path.{_≡_, sym, ap, _∙_}
 use Prim.Native.Nat.{ℕ, _≤_, _-_, _+_, _*_}
 use native.Mathlib.Omega.{arith}
@@ -6,8 +6,8 @@ use lib.ListN.{length, take, drop, length-drop}
 use lib.Seq.{take-all}
 use Rattle.bins.specs.Bins.{readings, imprint}
 use borrow.Author.Needs.{needs}
-use Rattle.reading_bins.proofs.imprint_at.Statement.{statement}
-use Rattle.reading_bins.proofs.imprint_at.Tie as tie
+use Rattle.reading_imprints.proofs.imprint_at.Statement.{statement}
+use Rattle.reading_imprints.proofs.imprint_at.Tie as tie
 
 mul-from : tie.Need-mul-from
 mul-from c = search needs
