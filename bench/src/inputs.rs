@@ -2,6 +2,9 @@
 
 pub const COLUMNS: [&str; 3] = ["sorted", "shuffled", "drifting"];
 
+/// What a probe sends that was touched.
+const SPIKE: i32 = 2_000_000_000;
+
 /// Marsaglia's xorshift, the same at every run.
 pub struct Dice(pub u64);
 
@@ -21,6 +24,9 @@ pub fn column(name: &str, rows: usize) -> Vec<i32> {
         "sorted" => (),
         "shuffled" => (1..rows).rev().for_each(|i| column.swap(i, dice.below(i + 1))),
         "drifting" => drift(&mut column, &mut dice),
+        "noisy with spikes" => {
+            column.iter_mut().for_each(|value| *value = if *value % 997 == 0 { SPIKE } else { dice.below(5_000) as i32 })
+        }
         other => unreachable!("no column {other}"),
     }
     column

@@ -5,6 +5,7 @@ mod appends;
 mod builds;
 mod filters;
 mod inputs;
+mod lookups;
 mod registers;
 
 use miguzoryane::{guarded_search, search, Filter, IndexBuf, Outcome, ROWS_AT_MOST};
@@ -162,6 +163,7 @@ fn main() {
     println!("{appended}");
     println!("| an empty range of the drifting column: look and learn, ms | denied, ms | search without the filter, ms |");
     println!("|---|---|---|\n{guarded}\n");
+    lookups::measure(rows, reps.min(5));
     registers::measure(rows, reps.min(5));
     filters::measure(reps, calls);
 }

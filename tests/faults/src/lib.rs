@@ -45,10 +45,40 @@ fn raised(column: &[i32]) -> Vec<i32> {
     column.iter().map(|&v| v.max(plain::FAULT + 1)).collect()
 }
 
+/// The bin that a faulty lookup finds.
+fn misfound(borders: &[i32], v: i32) -> Option<usize> {
+    let bin = plain::bin(borders, v);
+    if fault("pad-counted-as-a-border") {
+        return Some(if v == i32::MAX { 63 } else { bin });
+    }
+    if fault("last-halving-lost") {
+        return Some(bin / 2 * 2);
+    }
+    if fault("highest-upper-node-left-out") {
+        return Some(bin.min(55));
+    }
+    if fault("value-before-a-border-behind-it") {
+        return Some(bin + borders.iter().any(|&b| b.checked_sub(1) == Some(v) && !plain::fault(v)) as usize);
+    }
+    None
+}
+
+/// The imprints by such a lookup, where one is planted.
+fn misimprinted(column: &[i32], borders: &[i32]) -> Option<Vec<u64>> {
+    misfound(borders, 0)?;
+    let line = |line: &[i32]| line.iter().fold(0, |word, &v| word | 1 << misfound(borders, v).unwrap());
+    Some(column.chunks(16).map(line).collect())
+}
+
 fn built(column: &[i32], spaces: [usize; 3]) -> Result<Index, No> {
     let answer = plain::build(column, spaces);
     if number(&answer) == 2 {
         return answer;
+    }
+    let borders = plain::borders(column);
+    if let Some(list) = misimprinted(column, &borders) {
+        let (imprints, dictionary) = plain::packing(&list);
+        return plain::fitting(Index { borders, imprints, dictionary }, spaces);
     }
     if fault("dead-in-the-sample") {
         let sample = column.iter().copied().step_by(plain::stride(column.len())).collect();
@@ -123,6 +153,11 @@ fn appended(column: &[i32], covered: u64, index: &Told) -> Result<Index, No> {
     let mut answer = plain::append(column, covered, index);
     if let (true, Ok(after)) = (fault("full-lines-reread"), &mut answer) {
         (after.imprints, after.dictionary) = plain::packing(&plain::line_imprints(column, &after.borders));
+        after.imprints.truncate(index.imprints.len());
+        after.dictionary.truncate(index.dictionary.len());
+    }
+    if let (0, Ok(after), Some(list)) = (covered, &mut answer, misimprinted(column, &index.borders)) {
+        (after.imprints, after.dictionary) = plain::packing(&list);
         after.imprints.truncate(index.imprints.len());
         after.dictionary.truncate(index.dictionary.len());
     }
