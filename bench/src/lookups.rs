@@ -177,6 +177,23 @@ fn one_bin_first(borders: &[i32]) -> impl Fn(&[i32]) -> u64 {
     }
 }
 
+/// The whole line goes down the tree together, as long as all its rows go one way; of any other line the bins are found as before.
+fn together_first(borders: &[i32]) -> impl Fn(&[i32]) -> u64 {
+    let nodes = tree(borders);
+    let else_by = upper_nodes::<3>(borders);
+    move |line| {
+        let mut node = 1;
+        while node < nodes.len() {
+            let above = line.iter().map(|&value| (nodes[node] < value) as u32).sum::<u32>() as usize;
+            if above != 0 && above != line.len() {
+                return else_by(line);
+            }
+            node = 2 * node + (above != 0) as usize;
+        }
+        1 << (node % 64)
+    }
+}
+
 /// The upper bits of a value's distance from the first rung say from which rung on to look: 1,024 parts of the borders' span.
 fn table(borders: &[i32]) -> impl Fn(&[i32]) -> u64 {
     const PARTS: u32 = 1024;
@@ -208,7 +225,7 @@ fn imprint_all<F: Fn(&[i32]) -> u64>(column: &[i32], borders: &[i32], of: impl F
 /// A shape: what it is called, and how it imprints a column.
 type Shape = (&'static str, fn(&[i32], &[i32], &mut [u64]));
 
-const SHAPES: [Shape; 14] = [
+const SHAPES: [Shape; 15] = [
     ("every border, borders side by side (before)", |c, b, out| imprint_all(c, b, counting, out)),
     ("every border, rows side by side", |c, b, out| imprint_all(c, b, rows_side_by_side, out)),
     ("`partition_point`", |c, b, out| imprint_all(c, b, partition_point, out)),
@@ -222,6 +239,7 @@ const SHAPES: [Shape; 14] = [
     ("**seven upper nodes side by side, three steps (kept)**", |c, b, out| imprint_all(c, b, upper_nodes::<3>, out)),
     ("fifteen upper nodes side by side, two steps", |c, b, out| imprint_all(c, b, upper_nodes::<4>, out)),
     ("the same as kept, lines of one bin first", |c, b, out| imprint_all(c, b, one_bin_first, out)),
+    ("the same as kept, lines that go one way first", |c, b, out| imprint_all(c, b, together_first, out)),
     ("a table of the top bits, then rung by rung", |c, b, out| imprint_all(c, b, table, out)),
 ];
 
