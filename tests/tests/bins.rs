@@ -1,7 +1,7 @@
 //! The bin of a value, for every number of borders and every bin of each. An append to no rows takes any borders, so that they can be laid as
 //! one likes; what it imprints is held against the plain implementation, which counts the borders not above a value.
 use outside_tests::held;
-use outside_tests::inputs::{in_spaces, Dice};
+use outside_tests::inputs::{in_spaces, rounds, Dice};
 use outside_tests::plain::{self, Index, FAULT};
 
 const MOST: usize = 63;
@@ -35,11 +35,13 @@ fn imprinted(column: &[i32], borders: &[i32]) -> Vec<u64> {
 }
 
 fn every_laying(salt: u64, mut f: impl FnMut(&mut Dice, &[i32])) {
-    let mut dice = Dice::new(salt);
-    for count in 0..=MOST {
-        for (way, borders) in laid(&mut dice, count).into_iter().enumerate() {
-            held::case(format!("{count} borders, way {way}"));
-            f(&mut dice, &borders);
+    for round in 0..rounds(1) {
+        let mut dice = Dice::new(salt + 1000 * round as u64);
+        for count in 0..=MOST {
+            for (way, borders) in laid(&mut dice, count).into_iter().enumerate() {
+                held::case(format!("round {round}, {count} borders, way {way}"));
+                f(&mut dice, &borders);
+            }
         }
     }
 }
