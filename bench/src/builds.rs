@@ -1,5 +1,5 @@
 //! Build beside the same loop in hand-written Rust, once for each way to look a bin up, and the shares of the sample's sort and of packing.
-use crate::lookups::{counting, halving, partition_point};
+use crate::lookups::{bin_before_first, counting, halving, partition_point};
 use crate::seconds;
 use miguzoryane::{build, lines, pack, unpack, Error, FAULT, ROWS_PER_LINE};
 
@@ -76,10 +76,11 @@ fn plain<F: Fn(&[i32]) -> u64>(column: &[i32], spaces: &mut Spaces, lookup: impl
 
 type ByHand = (&'static str, fn(&[i32], &mut Spaces));
 
-const BY_HAND: [ByHand; 3] = [
+const BY_HAND: [ByHand; 4] = [
     ("counting all borders", |column, spaces| plain(column, spaces, counting)),
     ("`partition_point`", |column, spaces| plain(column, spaces, partition_point)),
     ("halving without a branch", |column, spaces| plain(column, spaces, halving)),
+    ("the shape kept", |column, spaces| plain(column, spaces, bin_before_first)),
 ];
 
 /// Best seconds of building, ours and by hand with each lookup, as a line of the first table; what sampling with sorting and what packing
@@ -108,7 +109,7 @@ pub fn measure(name: &str, column: &[i32], reps: usize) -> (String, String) {
 
 pub fn heading() -> String {
     let by_hand: String = BY_HAND.iter().map(|(name, _)| format!(" Rust, {name}, ms |")).collect();
-    format!("| column | build, ms |{by_hand} build / best Rust | build / counting |\n|---|---|---|---|---|---|---|")
+    format!("| column | build, ms |{by_hand} build / best Rust | build / counting |\n|---|---|---|---|---|---|---|---|")
 }
 
 /// A build that is lent no space for borders ends when it has them: it has sampled, sorted and picked, and looked up nothing. Packing is

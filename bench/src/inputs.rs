@@ -27,6 +27,10 @@ pub fn column(name: &str, rows: usize) -> Vec<i32> {
         "noisy with spikes" => {
             column.iter_mut().for_each(|value| *value = if *value % 997 == 0 { SPIKE } else { dice.below(5_000) as i32 })
         }
+        "one bin or many" => column.chunks_mut(16).for_each(|line| {
+            let many = dice.below(2) == 1;
+            line.iter_mut().for_each(|value| *value = if many { dice.below(5_000) as i32 } else { 2_500 })
+        }),
         other => unreachable!("no column {other}"),
     }
     column

@@ -3,6 +3,7 @@
 use crate::inputs::{self, COLUMNS};
 use crate::{builds, seconds};
 use miguzoryane::{lines, FAULT, ROWS_PER_LINE};
+use std::cell::Cell;
 use std::hint::{black_box, select_unpredictable};
 
 const BORDERS: usize = 63;
@@ -166,14 +167,31 @@ fn one_bin_first(borders: &[i32]) -> impl Fn(&[i32]) -> u64 {
     let else_by = upper_nodes::<3>(borders);
     move |line| {
         let bin = line.first().map_or(0, |&value| down(&nodes, 1, value, 6) % 64);
-        if bin != 0 {
-            let (above, to) = (rungs[bin - 1], rungs[bin]);
-            let inside: usize = line.iter().map(|&value| (above < value && value <= to) as usize).sum();
-            if inside == line.len() {
-                return 1 << bin;
-            }
+        if bin != 0 && all_in(&rungs, bin, line) {
+            return 1 << bin;
         }
         else_by(line)
+    }
+}
+
+/// All rows lie in this bin: above the last rung before it, and not above its own.
+fn all_in(rungs: &[i32; 64], bin: usize, line: &[i32]) -> bool {
+    let (above, to) = (rungs[bin - 1], rungs[bin]);
+    line.iter().map(|&value| (above < value && value <= to) as u32).sum::<u32>() as usize == line.len()
+}
+
+/// Where the line before lies in one bin, it is tried whether this one does too; of any other line the bins are found as before.
+pub fn bin_before_first(borders: &[i32]) -> impl Fn(&[i32]) -> u64 {
+    let rungs: [i32; 64] = ladder(borders);
+    let else_by = upper_nodes::<3>(borders);
+    let before = Cell::new(0u64);
+    move |line| {
+        let guess = before.get();
+        if 1 < guess && guess.is_power_of_two() && all_in(&rungs, guess.trailing_zeros() as usize, line) {
+            return guess;
+        }
+        before.set(else_by(line));
+        before.get()
     }
 }
 
@@ -225,7 +243,7 @@ fn imprint_all<F: Fn(&[i32]) -> u64>(column: &[i32], borders: &[i32], of: impl F
 /// A shape: what it is called, and how it imprints a column.
 type Shape = (&'static str, fn(&[i32], &[i32], &mut [u64]));
 
-const SHAPES: [Shape; 15] = [
+const SHAPES: [Shape; 16] = [
     ("every border, borders side by side (before)", |c, b, out| imprint_all(c, b, counting, out)),
     ("every border, rows side by side", |c, b, out| imprint_all(c, b, rows_side_by_side, out)),
     ("`partition_point`", |c, b, out| imprint_all(c, b, partition_point, out)),
@@ -236,16 +254,17 @@ const SHAPES: [Shape; 15] = [
     ("eight rungs, then eight", |c, b, out| imprint_all(c, b, eight_by_eight, out)),
     ("six steps down a tree", |c, b, out| imprint_all(c, b, tree_alone, out)),
     ("three upper nodes side by side, four steps", |c, b, out| imprint_all(c, b, upper_nodes::<2>, out)),
-    ("**seven upper nodes side by side, three steps (kept)**", |c, b, out| imprint_all(c, b, upper_nodes::<3>, out)),
+    ("seven upper nodes side by side, three steps", |c, b, out| imprint_all(c, b, upper_nodes::<3>, out)),
     ("fifteen upper nodes side by side, two steps", |c, b, out| imprint_all(c, b, upper_nodes::<4>, out)),
-    ("the same as kept, lines of one bin first", |c, b, out| imprint_all(c, b, one_bin_first, out)),
-    ("the same as kept, lines that go one way first", |c, b, out| imprint_all(c, b, together_first, out)),
+    ("seven, lines of one bin first", |c, b, out| imprint_all(c, b, one_bin_first, out)),
+    ("seven, lines that go one way first", |c, b, out| imprint_all(c, b, together_first, out)),
+    ("**seven, lines in the one bin of the line before first (kept)**", |c, b, out| imprint_all(c, b, bin_before_first, out)),
     ("a table of the top bits, then rung by rung", |c, b, out| imprint_all(c, b, table, out)),
 ];
 
 /// Best nanoseconds a row of every shape over each column, as a table.
 pub fn measure(rows: usize, reps: usize) {
-    let names: Vec<&str> = COLUMNS.into_iter().chain(["noisy with spikes"]).collect();
+    let names: Vec<&str> = COLUMNS.into_iter().chain(["noisy with spikes", "one bin or many"]).collect();
     let mut table: Vec<String> = SHAPES.iter().map(|(name, _)| format!("| {name} |")).collect();
     for name in &names {
         eprintln!("{name}: shapes of the lookup, {reps} times each, in turn");

@@ -77,6 +77,28 @@ fn one_row_apart() {
     });
 }
 
+/// Lines behind lines of one bin: in the same bin, in the next one, and with one row apart at each place; a short one at the end.
+#[test]
+fn after_a_line_of_one_bin() {
+    every_laying(1054, |dice, borders| {
+        let values = around(borders);
+        let mut column = Vec::new();
+        for place in 0..16 {
+            let at = dice.below(values.len() - 1);
+            let (one, near, far) = (values[at], values[at + 1], dice.of(&values));
+            for other in [near, far] {
+                let mut apart = [one; 16];
+                apart[place] = other;
+                column.extend([[one; 16], apart, [one; 16], [other; 16], apart, apart].concat());
+            }
+        }
+        for rows in [column.len(), column.len() - 1, column.len() - 15] {
+            imprinted(&column[column.len() - rows..], borders);
+            imprinted(&column[..rows], borders);
+        }
+    });
+}
+
 /// Any values side by side.
 #[test]
 fn bins_mixed() {

@@ -11,7 +11,7 @@ use lib.Seq.{take-suc, take-suc-set, take-length, take-all, getD-take, set-appen
 use lib.IntN.{ℤ, pos, negsuc, predℤ, suc-pred}
 use lib.Dec.{eqb, leb}
 use lib.Signed.{leZ, ltZ, mag}
-use borrow.Author.Tests.{le-leb, lt-leb, leb-true, eqb-true}
+use borrow.Author.Tests.{le-leb, lt-leb, leb-true, leb-false, eq-eqb, ne-eqb, eqb-true}
 use Rattle.words.specs.Lists.{from, every}
 use Rattle.words.proofs.ListLaws.{length-from}
 use Rattle.words.proofs.Order.{leZ-trans, leZ-other, leZ-no, ltZ-nle, ltZ-pred, suc-leZ}
@@ -93,6 +93,10 @@ passed b (suc n) = passed b n + behind b (suc n)
 abbrev pub next : ℕ → ℕ → ℕ
 next b n = 2 * n + behind b n
 
+-- 1 of a value that is above one node and not above another, by the two tests
+abbrev pub between : Bool → Bool → ℕ
+between s t = cond s 0 (cond t 1 0)
+
 pub behind-le : (b n : ℕ) → behind b n ≤ 1
 behind-le b n = go (leb b (place n))
   where
@@ -104,27 +108,30 @@ pub passed-le : (b n : ℕ) → passed b n ≤ n
 passed-le b zero = omega arith
 passed-le b (suc n) = omega (arith, passed-le b n, behind-le b (suc n))
 
--- Every bin is tried: the seven upper nodes give its landing, three steps from there give the bin, and every node has a place.
+-- Every bin is tried: the seven upper nodes give its landing, three steps from there give the bin's leaf. And every node: it has a place.
 abbrev walks : ℕ → Bool
-walks b = eqb (passed b 7) (b / 8) && (eqb (next b (next b (next b (8 + b / 8)))) (64 + b) && leb (place b) 62)
+walks b = eqb (passed b 7) (b / 8) && eqb (next b (next b (next b (8 + b / 8)))) (64 + b)
 
 all-walk : every walks (from 0 64) ≡ true
 unfolding place
 all-walk = refl
 
-every-at : (f : ℕ → Bool) (a n i : ℕ) → every f (from a n) ≡ true → i < n → f (a + i) ≡ true
+all-placed : every (λ n. leb (place n) 63) (from 0 128) ≡ true
+unfolding place
+all-placed = refl
+
+pub every-at : (f : ℕ → Bool) (a n i : ℕ) → every f (from a n) ≡ true → i < n → f (a + i) ≡ true
 every-at f a zero i e h = absurd (omega arith)
 every-at f a (suc n) zero e h = ap f (add-zero a) ∙ and-eq-true-iff (f a) (every f (from (suc a) n)) .0 e .0
 every-at f a (suc n) (suc i) e h =
     let q : a + suc i ≡ suc a + i = omega arith in
     ap f q ∙ every-at f (suc a) n i (and-eq-true-iff (f a) (every f (from (suc a) n)) .0 e .1) (le-of-suc-le-suc h)
 
-walked : (b : ℕ) → b < 64 → (passed b 7 ≡ b / 8) × ((next b (next b (next b (8 + b / 8))) ≡ 64 + b) × (place b ≤ 62))
+walked : (b : ℕ) → b < 64 → (passed b 7 ≡ b / 8) × (next b (next b (next b (8 + b / 8))) ≡ 64 + b)
 walked b h =
     let e : walks b ≡ true = ap walks (sym (zero-add b)) ∙ every-at walks 0 64 b all-walk h in
-    let x = and-eq-true-iff (eqb (passed b 7) (b / 8)) (eqb (next b (next b (next b (8 + b / 8)))) (64 + b) && leb (place b) 62) .0 e in
-    let y = and-eq-true-iff (eqb (next b (next b (next b (8 + b / 8)))) (64 + b)) (leb (place b) 62) .0 (x .1) in
-    (eqb-true (passed b 7) (b / 8) (x .0), (eqb-true (next b (next b (next b (8 + b / 8)))) (64 + b) (y .0), leb-true (place b) 62 (y .1)))
+    let x = and-eq-true-iff (eqb (passed b 7) (b / 8)) (eqb (next b (next b (next b (8 + b / 8)))) (64 + b)) .0 e in
+    (eqb-true (passed b 7) (b / 8) (x .0), eqb-true (next b (next b (next b (8 + b / 8)))) (64 + b) (x .1))
 
 -- THE SEVEN UPPER NODES GIVE THE LANDING
 pub passed-upper : (b : ℕ) → b < 64 → passed b 7 ≡ b / 8
@@ -132,7 +139,10 @@ passed-upper b h = walked b h .0
 
 -- THREE STEPS FROM THERE GIVE THE BIN
 pub walk-ends : (b : ℕ) → b < 64 → next b (next b (next b (8 + b / 8))) ≡ 64 + b
-walk-ends b h = walked b h .1 .0
+walk-ends b h = walked b h .1
+
+placed : (n : ℕ) → n < 128 → place n ≤ 63
+placed n h = leb-true (place n) 63 (ap (λ (m : ℕ). leb (place m) 63) (sym (zero-add n)) ∙ every-at (λ (m : ℕ). leb (place m) 63) 0 128 n all-placed h)
 
 -- ---- a list that is written from the front, an element for each of another
 
@@ -210,22 +220,22 @@ module _ (k : Kind) where
     counted : below (ladder k bs) v ≡ bin k bs v
     unfolding ladder
     counted =
-        let pads : List ℤ = replicate (63 - length bs) (k .greatest) in
-        below-sort (map (rung k) bs ++ pads) v ∙ below-pads (map (rung k) bs) (63 - length bs) (k .greatest) v top ∙ below-bin bs v
+        let pads : List ℤ = replicate (64 - length bs) (k .greatest) in
+        below-sort (map (rung k) bs ++ pads) v ∙ below-pads (map (rung k) bs) (64 - length bs) (k .greatest) v top ∙ below-bin bs v
 
-    high : length (ladder k bs) ≡ 63
+    high : length (ladder k bs) ≡ 64
     unfolding ladder
     high =
-        let pads : List ℤ = replicate (63 - length bs) (k .greatest) in
+        let pads : List ℤ = replicate (64 - length bs) (k .greatest) in
         sort-length (map (rung k) bs ++ pads)
-        ∙ omega (arith, length-append (map (rung k) bs) pads, length-map bs (rung k), length-replicate (63 - length bs) (k .greatest))
+        ∙ omega (arith, length-append (map (rung k) bs) pads, length-map bs (rung k), length-replicate (64 - length bs) (k .greatest))
 
     ladder-climbs : climbs (ladder k bs) ≡ true
     unfolding ladder
-    ladder-climbs = sort-climbs (map (rung k) bs ++ replicate (63 - length bs) (k .greatest))
+    ladder-climbs = sort-climbs (map (rung k) bs ++ replicate (64 - length bs) (k .greatest))
 
     -- A VALUE IS NOT ABOVE RUNG J EXACTLY WHEN ITS BIN IS AT MOST J
-    rung-tells : (j : ℕ) → j < 63 → leZ v (getD (ladder k bs) j (pos 0)) ≡ leb (bin k bs v) j
+    rung-tells : (j : ℕ) → j < 64 → leZ v (getD (ladder k bs) j (pos 0)) ≡ leb (bin k bs v) j
     rung-tells j h = go (leZ v (getD (ladder k bs) j (pos 0))) refl
       where
         go : (t : Bool) → leZ v (getD (ladder k bs) j (pos 0)) ≡ t → t ≡ leb (bin k bs v) j
@@ -233,33 +243,52 @@ module _ (k : Kind) where
         go false e = sym (lt-leb (bin k bs v) j (omega (arith, counted, from-on (ladder k bs) (pos 0) j v ladder-climbs e (omega (arith, high)))))
 
     -- so node n of the tree tells it of the place where the node stands
-    node-tells : (n : ℕ) → n < 64 → leZ v (getD (tree k bs) n (pos 0)) ≡ leb (bin k bs v) (place n)
+    node-tells : (n : ℕ) → n < 128 → leZ v (getD (tree k bs) n (pos 0)) ≡ leb (bin k bs v) (place n)
     unfolding tree
     node-tells n h =
-        let at = from-place (λ (m : ℕ). getD (ladder k bs) (place m) (pos 0)) (pos 0) 0 64 n h in
-        ap (leZ v) (at ∙ ap (λ (m : ℕ). getD (ladder k bs) (place m) (pos 0)) (zero-add n)) ∙ rung-tells (place n) (omega (arith, walked n h .1 .1))
+        let at = from-place (λ (m : ℕ). getD (ladder k bs) (place m) (pos 0)) (pos 0) 0 128 n h in
+        ap (leZ v) (at ∙ ap (λ (m : ℕ). getD (ladder k bs) (place m) (pos 0)) (zero-add n)) ∙ rung-tells (place n) (omega (arith, placed n h))
 
     -- and a program that tests it goes on as the walk does
-    pub node-behind : (nodes : List ℤ) → nodes ≡ tree k bs → (n : ℕ) → n < 64 → cond (leZ v (getD nodes n (pos 0))) 0 1 ≡ behind (bin k bs v) n
+    pub node-behind : (nodes : List ℤ) → nodes ≡ tree k bs → (n : ℕ) → n < 128 → cond (leZ v (getD nodes n (pos 0))) 0 1 ≡ behind (bin k bs v) n
     node-behind nodes e n h = ap (λ (l : List ℤ). cond (leZ v (getD l n (pos 0))) 0 1) e ∙ ap (λ (t : Bool). cond t 0 1) (node-tells n h)
 
-    pub node-next : (nodes : List ℤ) → nodes ≡ tree k bs → (n : ℕ) → n < 64 → 2 * n + cond (leZ v (getD nodes n (pos 0))) 0 1 ≡ next (bin k bs v) n
+    pub node-next : (nodes : List ℤ) → nodes ≡ tree k bs → (n : ℕ) → n < 128 → 2 * n + cond (leZ v (getD nodes n (pos 0))) 0 1 ≡ next (bin k bs v) n
     node-next nodes e n h = ap (λ (m : ℕ). 2 * n + m) (node-behind nodes e n h)
+
+    -- and two leaves side by side tell it of the bin that ends at the second
+    leaf-tells : (n : ℕ) → 64 ≤ n → n < 128 → leZ v (getD (tree k bs) n (pos 0)) ≡ leb (bin k bs v) (n - 64)
+    unfolding place
+    leaf-tells n l h = node-tells n h ∙ rw (le-leb 64 n l) refl
+
+    pub leaves-tell : (nodes : List ℤ) → nodes ≡ tree k bs → (b : ℕ) → 0 < b → b < 64
+        → between (leZ v (getD nodes (b + 63) (pos 0))) (leZ v (getD nodes (b + 64) (pos 0))) ≡ cond (eqb (bin k bs v) b) 1 0
+    leaves-tell nodes e b p h =
+        ap (λ (l : List ℤ). between (leZ v (getD l (b + 63) (pos 0))) (leZ v (getD l (b + 64) (pos 0)))) e
+        ∙ rw (leaf-tells (b + 63) (omega arith) (omega arith), leaf-tells (b + 64) (omega arith) (omega arith)) (go (leb (bin k bs v) (b + 63 - 64)) refl (leb (bin k bs v) (b + 64 - 64)) refl)
+      where
+        go : (s : Bool) → leb (bin k bs v) (b + 63 - 64) ≡ s → (t : Bool) → leb (bin k bs v) (b + 64 - 64) ≡ t → between s t ≡ cond (eqb (bin k bs v) b) 1 0
+        go true x t y = let z = leb-true (bin k bs v) (b + 63 - 64) x in sym (ap (λ (u : Bool). cond u 1 0) (ne-eqb (bin k bs v) b (λ q. absurd (omega (arith, q, z)))))
+        go false x true y =
+            let f = leb-false (bin k bs v) (b + 63 - 64) x in
+            let z = leb-true (bin k bs v) (b + 64 - 64) y in
+            sym (ap (λ (u : Bool). cond u 1 0) (eq-eqb (bin k bs v) b (omega (arith, f, z))))
+        go false x false y = let f = leb-false (bin k bs v) (b + 64 - 64) y in sym (ap (λ (u : Bool). cond u 1 0) (ne-eqb (bin k bs v) b (λ q. absurd (omega (arith, q, f)))))
 
   -- ---- the loop that writes the rungs
 
   -- those of the first i borders, and the filling
   abbrev pub rungs : List ℤ → ℕ → List ℤ
-  rungs bs i = map (rung k) (take i bs) ++ replicate (63 - i) (k .greatest)
+  rungs bs i = map (rung k) (take i bs) ++ replicate (64 - i) (k .greatest)
 
   pub rungs-turn : (bs : List ℤ) (i : ℕ) (d : ℤ) → i < length bs → length bs ≤ 63 → set (rungs bs i) i (rung k (getD bs i d)) ≡ rungs bs (i + 1)
   rungs-turn bs i d h few =
       let g : ℤ = k .greatest in
       let x : ℤ = rung k (getD bs i d) in
       let front : List ℤ = map (rung k) (take i bs) in
-      let rest : List ℤ = replicate (63 - (i + 1)) g in
+      let rest : List ℤ = replicate (64 - (i + 1)) g in
       let n : length front ≡ i = length-map (take i bs) (rung k) ∙ length-take-le i bs (omega arith) in
-      let one : 63 - i ≡ suc (63 - (i + 1)) = omega arith in
+      let one : 64 - i ≡ suc (64 - (i + 1)) = omega arith in
       let more : take (i + 1) bs ≡ take i bs ++ (getD bs i d ∷ []) = rw add-one (take-suc bs i d h) in
       ap (λ (m : ℕ). set (front ++ replicate m g) i x) one
       ∙ ap (λ (m : ℕ). set (front ++ g ∷ rest) m x) (sym n)
@@ -267,30 +296,30 @@ module _ (k : Kind) where
       ∙ sym (append-snoc front x rest)
       ∙ ap (λ (l : List ℤ). l ++ rest) (sym (map-append (rung k) (take i bs) (getD bs i d ∷ [])) ∙ ap (map (rung k)) (sym more))
 
-  pub rungs-length : (bs : List ℤ) (i : ℕ) → i ≤ length bs → length bs ≤ 63 → length (rungs bs i) ≡ 63
+  pub rungs-length : (bs : List ℤ) (i : ℕ) → i ≤ length bs → length bs ≤ 63 → length (rungs bs i) ≡ 64
   rungs-length bs i h few =
       let front : List ℤ = map (rung k) (take i bs) in
-      let rest : List ℤ = replicate (63 - i) (k .greatest) in
-      omega (arith, length-append front rest, length-map (take i bs) (rung k), length-take-le i bs h, length-replicate (63 - i) (k .greatest))
+      let rest : List ℤ = replicate (64 - i) (k .greatest) in
+      omega (arith, length-append front rest, length-map (take i bs) (rung k), length-take-le i bs h, length-replicate (64 - i) (k .greatest))
 
   pub rungs-sorted : (bs : List ℤ) (i : ℕ) → i ≡ length bs → sort (rungs bs i) ≡ ladder k bs
   unfolding ladder
-  rungs-sorted bs i e = ap (λ (n : ℕ). sort (rungs bs n)) e ∙ ap (λ (l : List ℤ). sort (map (rung k) l ++ replicate (63 - length bs) (k .greatest))) (take-length bs)
+  rungs-sorted bs i e = ap (λ (n : ℕ). sort (rungs bs n)) e ∙ ap (λ (l : List ℤ). sort (map (rung k) l ++ replicate (64 - length bs) (k .greatest))) (take-length bs)
 
   -- ---- the loop that lays out the tree
 
   abbrev pub node : List ℤ → ℕ → ℤ
   node bs n = getD (ladder k bs) (place n) (pos 0)
 
-  pub laid-turn : (bs nodes : List ℤ) (n : ℕ) → n < length nodes → n < 64 → take n nodes ≡ map (node bs) (take n (from 0 64)) → take (n + 1) (set nodes n (node bs n)) ≡ map (node bs) (take (n + 1) (from 0 64))
+  pub laid-turn : (bs nodes : List ℤ) (n : ℕ) → n < length nodes → n < 128 → take n nodes ≡ map (node bs) (take n (from 0 128)) → take (n + 1) (set nodes n (node bs n)) ≡ map (node bs) (take (n + 1) (from 0 128))
   laid-turn bs nodes n l h e =
-      ap (λ (m : ℕ). take (n + 1) (set nodes n (node bs m))) (sym (from-at-place 0 64 n h ∙ zero-add n))
-      ∙ map-turn (node bs) nodes (from 0 64) n 0 l (omega (arith, length-from 64 0)) e
+      ap (λ (m : ℕ). take (n + 1) (set nodes n (node bs m))) (sym (from-at-place 0 128 n h ∙ zero-add n))
+      ∙ map-turn (node bs) nodes (from 0 128) n 0 l (omega (arith, length-from 128 0)) e
 
-  pub laid-all : (bs nodes : List ℤ) (n : ℕ) → length nodes ≡ 64 → 64 ≤ n → take n nodes ≡ map (node bs) (take n (from 0 64)) → nodes ≡ tree k bs
+  pub laid-all : (bs nodes : List ℤ) (n : ℕ) → length nodes ≡ 128 → 128 ≤ n → take n nodes ≡ map (node bs) (take n (from 0 128)) → nodes ≡ tree k bs
   unfolding tree
   laid-all bs nodes n l h e =
-      sym (take-all n nodes (omega arith)) ∙ e ∙ ap (map (node bs)) (take-all n (from 0 64) (omega (arith, length-from 64 0)))
+      sym (take-all n nodes (omega arith)) ∙ e ∙ ap (map (node bs)) (take-all n (from 0 128) (omega (arith, length-from 128 0)))
 
 -- a value that fits a width is not above the greatest one
 pub fits-greatest : (H : ℕ) (v : ℤ) → mag v < H → leZ v (pos (H - 1)) ≡ true

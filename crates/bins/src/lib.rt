@@ -33,10 +33,13 @@ pub fn stride_of(rows: usize) -> usize
 
 // Where a node of the search tree stands on the ladder.
 pub fn place_of(node: usize) -> usize
-    requires { ⌜ node < 64 ⌝ }
+    requires { ⌜ node < 128 ⌝ }
     ensures at { λ r. ⌜ r ≡ place node ⌝ }
-    ensures few { λ r. ⌜ r < 63 ⌝ }
+    ensures few { λ r. ⌜ r < 64 ⌝ }
 {
+    if 64 <= node {
+        return node - 64;
+    }
     if 32 <= node {
         return 2 * node - 64;
     }
@@ -53,6 +56,22 @@ pub fn place_of(node: usize) -> usize
         return 32 * node - 49;
     }
     31
+}
+
+// The bin of an imprint that has one bin alone; 0 of any other, and of bin 0.
+pub fn bin_alone(imprint: u64) -> u32
+    ensures few { λ r. ⌜ r < 64 ⌝ }
+    ensures alone { λ r. ⌜ (0 < r → imprint ≡ 2 ^ r) ⌝ }
+    ensures others { λ r. ⌜ (r ≡ 0 → (b : ℕ) → 0 < b → b < 64 → imprint ≡ 2 ^ b → ⊥) ⌝ }
+{
+    let b = u64::trailing_zeros(imprint);
+    if 63 < b {
+        return 0;
+    }
+    if imprint == 1u64 << b {
+        return b;
+    }
+    0
 }
 
 // The word with the n lowest bits set. At n = 64 a shift by n would be undefined.

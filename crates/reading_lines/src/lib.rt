@@ -39,7 +39,8 @@ fn measure_lines(column: &[i32], borders: &[i32], before: Packer, first: Line) -
     let mut measuring = before;
     let mut i: usize = first.0;
     while i < lines {
-        measuring = measuring.counted(imprint_at(column, Line(i), borders, &nodes));
+        let last = measuring.state.last;
+        measuring = measuring.counted(imprint_at(column, Line(i), borders, &nodes, last));
         i += 1;
     }
     let dictionary = measuring.ends();
@@ -71,7 +72,8 @@ fn write_lines(
     let mut packer = before;
     let mut i: usize = first.0;
     while i < lines {
-        let imprint = imprint_at(column, Line(i), borders, &nodes);
+        let last = packer.state.last;
+        let imprint = imprint_at(column, Line(i), borders, &nodes, last);
         packer = packer.pushed(imprint, imprints, dictionary);
         i += 1;
     }

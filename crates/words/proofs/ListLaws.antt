@@ -2,7 +2,7 @@
 use Prim.Native.Nat.{ℕ, zero, suc, _+_, _-_, _*_, _/_, _<_, _≤_}
 use mathlib.Core.Path.{_≡_, refl, sym, _∙_, ap, ap₂}
 use mathlib.Core.List.{List, [], _∷_, _++_, map, append-nil, append-assoc}
-use mathlib.Core.Bool.{Bool, true, false, _&&_, and-eq-true-iff, false≢true}
+use mathlib.Core.Bool.{Bool, true, false, cond, _&&_, and-eq-true-iff, false≢true}
 use lib.Dec.{leb, eqb}
 use borrow.Author.Tests.{leb-true, leb-false, eq-eqb, eqb-true}
 use native.Mathlib.Nat.{div-eq-of-lt, add-div-left, mul-zero, mul-suc, suc-mul, zero-add, add-zero, mul-comm, le-div-iff-mul-le, div-lt-iff-lt-mul}
@@ -10,7 +10,7 @@ use native.Mathlib.Omega.{arith}
 use native.Mathlib.Numerals.{add-one}
 use lib.ListN.{length, take, drop, length-append, take-append-drop, length-drop, length-map, set, drop-of-length-le}
 use lib.Seq.{take-all, take-at, drop-at, drop-append-add, length-take-le, take-append-seam, sets, sets-eq}
-use Rattle.words.specs.Lists.{from, ceil, pieces, joined, every, same, filled, after}
+use Rattle.words.specs.Lists.{from, ceil, pieces, joined, times, every, same, filled, after}
 
 pub ceil-zero : (k : ℕ) → 0 < k → ceil 0 k ≡ 0
 ceil-zero k h = div-eq-of-lt (omega arith)
@@ -201,3 +201,13 @@ module _ {ℓ} {A : Type ℓ} (v a : List A) (m : ℕ) (l : length a ≡ m) wher
   both-back b =
       let z : drop (length (a ++ drop m v) - m) (drop m (a ++ drop m v)) ≡ [] = ap (drop (length (a ++ drop m v) - m)) (drop-at a (drop m v) m l) ∙ drop-of-length-le (drop m v) {i = length (a ++ drop m v) - m} (omega (arith, length-append a (drop m v))) in
       ap (λ (x : List A). x ++ (b ++ drop (length (a ++ drop m v) - m) (drop m (a ++ drop m v)))) (take-at a (drop m v) m l) ∙ ap (λ (x : List A). a ++ (b ++ x)) z ∙ ap (λ (x : List A). a ++ x) (append-nil b)
+
+-- ---- how often a number stands in a list: at most as often as the list is long
+
+pub times-le : (h : ℕ) (l : List ℕ) → times h l ≤ length l
+times-le h [] = omega arith
+times-le h (x ∷ l) = go (eqb x h) (times-le h l)
+  where
+    go : (b : Bool) → times h l ≤ length l → cond b 1 0 + times h l ≤ suc (length l)
+    go true ih = omega arith
+    go false ih = omega arith

@@ -63,8 +63,33 @@ fn misfound(borders: &[i32], v: i32) -> Option<usize> {
     None
 }
 
-/// The imprints by such a lookup, where one is planted.
+/// The imprints where the line before tells a line's wrongly.
+fn mistold(column: &[i32], borders: &[i32]) -> Option<Vec<u64>> {
+    let told: fn(u64, &[usize]) -> bool = if fault("line-told-by-its-first-row") {
+        |before, bins| before == 1 << bins[0]
+    } else if fault("bin-before-counted-too") {
+        |before, bins| bins.iter().all(|&bin| before == 1 << bin || before == 2 << bin)
+    } else if fault("lowest-bin-taken-for-the-only-one") {
+        |before, bins| bins.iter().all(|&bin| before.trailing_zeros() as usize == bin)
+    } else {
+        return None;
+    };
+    let mut before = 0;
+    let line = |line: &[i32]| {
+        let bins: Vec<usize> = line.iter().map(|&v| plain::bin(borders, v)).collect();
+        if !told(before, &bins) {
+            before = bins.iter().fold(0, |word, bin| word | 1 << bin);
+        }
+        before
+    };
+    Some(column.chunks(16).map(line).collect())
+}
+
+/// The imprints by a faulty lookup, where one is planted.
 fn misimprinted(column: &[i32], borders: &[i32]) -> Option<Vec<u64>> {
+    if let Some(list) = mistold(column, borders) {
+        return Some(list);
+    }
     misfound(borders, 0)?;
     let line = |line: &[i32]| line.iter().fold(0, |word, &v| word | 1 << misfound(borders, v).unwrap());
     Some(column.chunks(16).map(line).collect())

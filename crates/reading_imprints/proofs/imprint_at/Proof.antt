@@ -15,8 +15,23 @@ mul-from c = search needs
 sub-if1 : tie.Need-sub-if1
 sub-if1 c = search needs
 
-add-line-imprint : tie.Need-add-line-imprint
-add-line-imprint c = search needs
+add-full-imprint : tie.Need-add-full-imprint
+add-full-imprint c = search needs
+
+mul-full-imprint : tie.Need-mul-full-imprint
+mul-full-imprint c = search needs
+
+sub-full-imprint : tie.Need-sub-full-imprint
+sub-full-imprint c = search needs
+
+part-full-imprint-start : tie.Need-part-full-imprint-start
+part-full-imprint-start c = search needs
+
+part-full-imprint-end : tie.Need-part-full-imprint-end
+part-full-imprint-end c = search needs
+
+full-imprint-requires : tie.Need-full-imprint-requires
+full-imprint-requires c κs = search needs
 
 mul-line-imprint : tie.Need-mul-line-imprint
 mul-line-imprint c = search needs
@@ -33,26 +48,11 @@ part-line-imprint-end c = search needs
 line-imprint-requires : tie.Need-line-imprint-requires
 line-imprint-requires c κs = search needs
 
-mul-line-imprint-2 : tie.Need-mul-line-imprint-2
-mul-line-imprint-2 c = search needs
-
-sub-line-imprint-2 : tie.Need-sub-line-imprint-2
-sub-line-imprint-2 c = search needs
-
-part-line-imprint-start-2 : tie.Need-part-line-imprint-start-2
-part-line-imprint-start-2 c = search needs
-
-part-line-imprint-end-2 : tie.Need-part-line-imprint-end-2
-part-line-imprint-end-2 c = search needs
-
-line-imprint-requires-2 : tie.Need-line-imprint-requires-2
-line-imprint-requires-2 c κs = search needs
-
 returns : tie.Need-returns
 returns c =
     let a = c .before .before .before .args in
     let e : readings .per * a .line .0 + readings .per - readings .per * a .line .0 ≡ readings .per = omega arith in
-    c .line-imprint .ensures ∙ ap (λ (n : ℕ). imprint readings (a .borders .now) (take n (drop (readings .per * a .line .0) (a .column .now)))) e
+    c .full-imprint .ensures ∙ ap (λ (n : ℕ). imprint readings (a .borders .now) (take n (drop (readings .per * a .line .0) (a .column .now)))) e
 
 returns-2 : tie.Need-returns-2
 returns-2 c =
@@ -60,7 +60,7 @@ returns-2 c =
     let d = drop (readings .per * a .line .0) (a .column .now) in
     let n : length d ≡ length (a .column .now) - readings .per * a .line .0 = length-drop (readings .per * a .line .0) (a .column .now) in
     let l : length d ≤ readings .per = omega (arith, c .before .before .if1 .left) in
-    c .line-imprint2 .ensures
+    c .line-imprint .ensures
     ∙ ap (imprint readings (a .borders .now)) (take-all (length (a .column .now) - readings .per * a .line .0) d (omega arith) ∙ sym (take-all (readings .per) d l))
 
 pub imprint-at-spec : {M : Type 1} → statement M
@@ -69,16 +69,16 @@ imprint-at-spec =
     (tie.spec
     mul-from
     sub-if1
-    add-line-imprint
+    add-full-imprint
+    mul-full-imprint
+    sub-full-imprint
+    part-full-imprint-start
+    part-full-imprint-end
+    full-imprint-requires
     mul-line-imprint
     sub-line-imprint
     part-line-imprint-start
     part-line-imprint-end
     line-imprint-requires
-    mul-line-imprint-2
-    sub-line-imprint-2
-    part-line-imprint-start-2
-    part-line-imprint-end-2
-    line-imprint-requires-2
     returns
     returns-2)

@@ -30,7 +30,7 @@ next-requires c κs = omega (arith, c .pre .1, few c)
 step : (s : tie.Start) (n r : ℕ) → n < 64 → r ≡ 2 * n + cond (leZ (toZ w32 (ofZ w32 (s .args .v))) (getD (s .args .nodes .now) n (pos 0))) 0 1 → r ≡ next (b s) n
 step s n r h e =
     e ∙ ap (λ (v : ℤ). 2 * n + cond (leZ v (getD (s .args .nodes .now) n (pos 0))) 0 1) (toZ-ofZ w32 (s .args .v) (s .fits .v))
-    ∙ node-next readings (s .args .borders .now) (s .pre .0 .0) (s .args .v) (fits-greatest (2 ^ hbits w32) (s .args .v) (s .fits .v .sfits)) (s .args .nodes .now) (s .pre .0 .1) n h
+    ∙ node-next readings (s .args .borders .now) (s .pre .0 .0) (s .args .v) (fits-greatest (2 ^ hbits w32) (s .args .v) (s .fits .v .sfits)) (s .args .nodes .now) (s .pre .0 .1) n (omega (arith, h))
 
 first : (c : tie.After-next) → c .next .result ≡ next (b (c .before)) (c .before .args .from)
 first c = step (c .before) (c .before .args .from) (c .next .result) (omega (arith, c .before .pre .1, few (c .before))) (c .next .ensures)

@@ -16,10 +16,10 @@ use Rattle.reading_imprints.proofs.tree.tree_of.Statement.{statement}
 use Rattle.reading_imprints.proofs.tree.tree_of.Tie as tie
 
 abbrev Inv-loop : tie.InvT-loop
-Inv-loop borders rungs nodes₀ n₀ nodes n = (n ≤ 64) × (length nodes ≡ 64) × (take n nodes ≡ map (node readings borders) (take n (from 0 64)))
+Inv-loop borders rungs nodes₀ n₀ nodes n = (n ≤ 128) × (length nodes ≡ 128) × (take n nodes ≡ map (node readings borders) (take n (from 0 128)))
 
 abbrev μ-loop : tie.MeasureT-loop
-μ-loop borders rungs nodes₀ n₀ nodes n = 64 - n
+μ-loop borders rungs nodes₀ n₀ nodes n = 128 - n
 
 ladder-of-requires : tie.Need-ladder-of-requires Inv-loop μ-loop
 ladder-of-requires c κs = search needs
