@@ -2,6 +2,9 @@
 
 pub const COLUMNS: [&str; 3] = ["sorted", "shuffled", "drifting"];
 
+/// Columns that are hard for one way or another to find bins: one value far off; guesses that fail half of the time, and always; few borders.
+pub const HARD: [&str; 4] = ["noisy with spikes", "one bin or many", "another bin each line", "eight values"];
+
 /// What a probe sends that was touched.
 const SPIKE: i32 = 2_000_000_000;
 
@@ -31,6 +34,8 @@ pub fn column(name: &str, rows: usize) -> Vec<i32> {
             let many = dice.below(2) == 1;
             line.iter_mut().for_each(|value| *value = if many { dice.below(5_000) as i32 } else { 2_500 })
         }),
+        "another bin each line" => column.chunks_mut(16).for_each(|line| line.fill(dice.below(5_000) as i32)),
+        "eight values" => column.iter_mut().for_each(|value| *value = dice.below(8) as i32),
         other => unreachable!("no column {other}"),
     }
     column

@@ -264,7 +264,7 @@ const SHAPES: [Shape; 16] = [
 
 /// Best nanoseconds a row of every shape over each column, as a table.
 pub fn measure(rows: usize, reps: usize) {
-    let names: Vec<&str> = COLUMNS.into_iter().chain(["noisy with spikes", "one bin or many"]).collect();
+    let names: Vec<&str> = COLUMNS.into_iter().chain(inputs::HARD).collect();
     let mut table: Vec<String> = SHAPES.iter().map(|(name, _)| format!("| {name} |")).collect();
     for name in &names {
         eprintln!("{name}: shapes of the lookup, {reps} times each, in turn");

@@ -151,6 +151,12 @@ fn main() {
             guarded = both(&column, &index, reps, &mut spaces.ids);
         }
     }
+    for name in inputs::HARD {
+        eprintln!("{name}: building beside loops by hand, {reps} times");
+        let (beside, parts) = builds::measure(name, &inputs::column(name, rows), reps);
+        by_hand += &beside;
+        shares += &parts;
+    }
     println!("\n| column | build, ms | ns per row | build / scan of an empty range | index, of the column |");
     println!("|---|---|---|---|---|");
     println!("{built}");
