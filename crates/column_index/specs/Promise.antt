@@ -200,8 +200,14 @@ pub record Searches (k : Kind) (col bs : List ℤ) (is ds : List ℕ) (low high 
   pub answers : r ≡ search-answer k col bs is ds low high (length rows)
   pub rows-after : rows′ ≡ after (numbered (search-number r)) (search-by k bs ds is col low high .ids) rows
 
--- the first three checks of the range search, 2, 5, 3, by themselves
+-- ---- the checks 2, 5, 3 by themselves
+
+-- of words that are to be an index for so many rows
+abbrev pub checked-rows : Kind → ℕ → List ℤ → List ℕ → List ℕ → IndexCheck
+checked-rows k rows bs is ds =
+    cond (ltb most-rows rows) checking.TooLong
+    (cond (not (good-borders bs)) checking.BadBorders (cond (not (accepted largest (bins bs) (ceil rows (k .per)) ds is)) checking.NoIndex checking.Fine))
+
+-- of words that are to be one for this column
 unfoldable pub checked-answer : Kind → List ℤ → List ℤ → List ℕ → List ℕ → IndexCheck
-checked-answer k col bs is ds =
-    cond (ltb most-rows (length col)) checking.TooLong
-    (cond (not (good-borders bs)) checking.BadBorders (cond (not (is-index-for k bs col ds is)) checking.NoIndex checking.Fine))
+checked-answer k col bs is ds = checked-rows k (length col) bs is ds

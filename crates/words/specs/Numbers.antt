@@ -2,7 +2,7 @@
 use Prim.Native.Nat.{ℕ}
 
 pub data Number : Type 0 where
-  done low-above-high column-too-long no-index space-too-short bad-borders bad-levels no-key no-filter no-room nothing-to-forget room-too-large unreadable negative-minute covered-above-rows : Number
+  done low-above-high column-too-long no-index space-too-short bad-borders bad-levels no-key no-filter no-room nothing-to-forget room-too-large unreadable negative-minute other-edition bad-block covered-above-rows : Number
 
 abbrev pub numbered : Number → ℕ
 numbered done = 0
@@ -19,6 +19,8 @@ numbered nothing-to-forget = 10
 numbered room-too-large = 11
 numbered unreadable = 12
 numbered negative-minute = 13
+numbered other-edition = 14
+numbered bad-block = 15
 numbered covered-above-rows = 17
 
 -- the most rows of a column; a longer one is 2

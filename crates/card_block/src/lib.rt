@@ -1,0 +1,1 @@
+// A block of the card: 512 bytes with their own check.
