@@ -2,3 +2,4 @@ pub mod ListLaws
 pub mod BitLaws
 pub mod BitOps
 pub mod Order
+pub mod ByteLaws
