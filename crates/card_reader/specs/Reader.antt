@@ -1,14 +1,14 @@
 -- Document 02, request 106: what a reader of the card makes of one block. Assumes nothing.
--- b is the block fed, s the reader, w the words of the lent spaces; `min a b` is the smaller of a and b; `sets l i xs` is l with xs laid over it from place i on.
+-- b is the block fed, s the reader, w the words of the lent spaces; `min a b` is the smaller of a and b.
 use Prim.Native.Nat.{ℕ, suc, _+_, _-_, _*_, min}
-use mathlib.Core.List.{List, map}
+use mathlib.Core.List.{List, [], _∷_}
 use mathlib.Core.Bool.{Bool, cond, _&&_}
 use lib.Dec.{eqb, leb, ltb}
-use lib.ListN.{take, drop}
-use lib.Seq.{sets}
-use Rattle.words.specs.Bytes.{number, numbers, signed}
+use lib.IntN.{ℤ}
+use lib.ListN.{length, getD, take, drop}
+use Rattle.words.specs.Bytes.{bytes, number, unsigned, signed}
 use Rattle.card_block.specs.Block.{number-of, length-of, payload-of, filled-up}
-use Rattle.card_image.specs.Image.{Edition, Words, payload}
+use Rattle.card_image.specs.Image.{Edition, Words}
 use Rattle.card_reader.specs.declared.Reader.{Reader}
 
 -- a fresh reader
@@ -47,18 +47,36 @@ is-due e b s = eqb (number-of b) (s .due) && (filled-up b && (ltb 0 (left e s) &
 
 -- ---- the words after it
 
--- the words of the lent spaces that the header counts
-abbrev pub told : Reader → Words → Words
-told s w = record { borders = take (s .borders) (w .borders); imprints = take (s .imprints) (w .imprints); dictionary = take (s .dictionary) (w .dictionary) }
+-- the byte at place q of the payload, x before, with the bytes p laid over from place at on
+abbrev pub over : ℕ → List ℕ → ℕ → ℕ → ℕ
+over at p q x = cond (leb at q && ltb q (at + length p)) (getD p (q - at) 0) x
 
--- the words that the bytes of a whole payload stand for
-abbrev pub words-of : Edition → Reader → List ℕ → Words
-words-of e s p = record {
-  borders = map (signed (e .width)) (numbers (e .width) (s .borders) (drop 16 p));
-  imprints = numbers 8 (s .imprints) (drop (16 + e .width * s .borders) p);
-  dictionary = numbers 4 (s .dictionary) (drop (16 + (e .width * s .borders + 8 * s .imprints)) p);
-}
+-- bytes from place q on, with p laid over
+abbrev pub overlaid : ℕ → List ℕ → ℕ → List ℕ → List ℕ
+overlaid at p q [] = []
+overlaid at p q (x ∷ xs) = over at p q x ∷ overlaid at p (suc q) xs
 
--- the block's payload laid over the bytes of the words it belongs to; the other bytes stay
+-- some of the k bytes from place q on are p's
+abbrev pub reached : ℕ → ℕ → List ℕ → ℕ → Bool
+reached k at p q = ltb 0 (length p) && (ltb q (at + length p) && ltb at (q + k))
+
+-- A space whose words have k bytes each and stand from place q of the payload on, with p laid over the bytes of each word that it reaches; the other bytes of such a word, and the other words, stay.
+-- `to` gives the number that stands for a word, `of` the word that a number stands for.
+abbrev pub relaid : {A : Type 0} → (A → ℕ) → (ℕ → A) → ℕ → ℕ → List ℕ → ℕ → List A → List A
+relaid to of k at p q [] = []
+relaid to of k at p q (v ∷ vs) = cond (reached k at p q) (of (number (overlaid at p q (bytes k (to v))))) v ∷ relaid to of k at p (q + k) vs
+
+-- borders of k bytes, and imprints and dictionary words
+abbrev pub relaid-values : ℕ → ℕ → List ℕ → ℕ → List ℤ → List ℤ
+relaid-values k = relaid (unsigned k) (signed k) k
+
+abbrev pub relaid-words : ℕ → ℕ → List ℕ → ℕ → List ℕ → List ℕ
+relaid-words = relaid (λ x. x) (λ x. x)
+
+-- the words that the header counts, at the fronts of the lent spaces, with the block's payload laid over
 abbrev pub laid : Edition → List ℕ → Reader → Words → Words
-laid e b s w = words-of e s (sets (payload e (s .rows) (told s w)) (496 * s .due) (payload-of b))
+laid e b s w = record {
+  borders = relaid-values (e .width) (496 * s .due) (payload-of b) 16 (take (s .borders) (w .borders));
+  imprints = relaid-words 8 (496 * s .due) (payload-of b) (16 + e .width * s .borders) (take (s .imprints) (w .imprints));
+  dictionary = relaid-words 4 (496 * s .due) (payload-of b) (16 + (e .width * s .borders + 8 * s .imprints)) (take (s .dictionary) (w .dictionary));
+}
