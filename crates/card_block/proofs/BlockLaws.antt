@@ -1,0 +1,89 @@
+-- A block says what it was made of, and is made of what it says (request 106). Assumes nothing.
+use Prim.Native.Nat.{ℕ, zero, suc, _+_, _-_, _^_, _<_, _≤_}
+use mathlib.Core.Path.{_≡_, refl, sym, _∙_, ap, ap₂}
+use mathlib.Core.List.{List, [], _∷_, _++_, append-assoc}
+use mathlib.Core.Bool.{Bool, true, false, _&&_}
+use lib.Dec.{eqb, ltb}
+use lib.ListN.{length, take, drop, replicate, length-append, length-replicate, length-drop, take-append-drop}
+use lib.Seq.{take-at, drop-at, take-append-le, drop-append-le, take-append-seam, drop-append-seam, drop-drop, length-take-le}
+use native.Mathlib.Omega.{arith}
+use borrow.Author.Tests.{eqb-true, eq-eqb}
+use Rattle.words.specs.Lists.{every, same}
+use Rattle.words.specs.Bytes.{bytes, number}
+use Rattle.words.proofs.ListLaws.{same-refl, same-eq}
+use Rattle.words.proofs.ByteLaws.{both, parts, all-bytes, length-bytes, number-bytes, bytes-number, every-take, every-drop}
+use Rattle.card_block.specs.Block.{check, front, block, sound, number-of, edition-of, length-of, payload-of, filled-up}
+
+-- ---- a block that is written
+
+pub front-length : (e n : ℕ) (p : List ℕ) → length p ≤ 496 → length (front e n p) ≡ 508
+front-length e n p h = omega (arith, length-append p (replicate (496 - length p) 0), length-replicate {A = ℕ} (496 - length p) 0)
+
+pub front-of-block : (e n : ℕ) (p : List ℕ) → length p ≤ 496 → take 508 (block e n p) ≡ front e n p
+unfolding block
+front-of-block e n p h = take-at (front e n p) (check (front e n p)) 508 (front-length e n p h)
+
+pub check-of-block : (e n : ℕ) (p : List ℕ) → length p ≤ 496 → drop 508 (block e n p) ≡ check (front e n p)
+unfolding block
+check-of-block e n p h = drop-at (front e n p) (check (front e n p)) 508 (front-length e n p h)
+
+pub block-length : (e n : ℕ) (p : List ℕ) → length p ≤ 496 → length (block e n p) ≡ 512
+unfolding block
+block-length e n p h = length-append (front e n p) (check (front e n p)) ∙ ap (λ (m : ℕ). m + 4) (front-length e n p h)
+
+pub number-of-block : (e n : ℕ) (p : List ℕ) → n < 256 ^ 4 → number-of (block e n p) ≡ n
+unfolding block
+number-of-block e n p h = number-bytes 4 n h
+
+pub edition-of-block : (e n : ℕ) (p : List ℕ) → e < 256 ^ 4 → edition-of (block e n p) ≡ e
+unfolding block
+edition-of-block e n p h = number-bytes 4 e h
+
+pub length-of-block : (e n : ℕ) (p : List ℕ) → length p ≤ 496 → length-of (block e n p) ≡ length p
+unfolding block
+length-of-block e n p h = number-bytes 2 (length p) (omega arith)
+
+-- what stands from place k of the payload on
+pub rest-of-block : (e n : ℕ) (p : List ℕ) → length p ≤ 496 → (k : ℕ) → k ≤ length p → drop (12 + k) (block e n p) ≡ drop k p ++ (replicate (496 - length p) 0 ++ check (front e n p))
+unfolding block
+rest-of-block e n p h k g =
+    sym (drop-drop k 12 (front e n p ++ check (front e n p)))
+    ∙ ap (drop k) (append-assoc p (replicate (496 - length p) 0) (check (front e n p)))
+    ∙ drop-append-le k p (replicate (496 - length p) 0 ++ check (front e n p)) g
+
+pub payload-of-block : (e n : ℕ) (p : List ℕ) → length p ≤ 496 → payload-of (block e n p) ≡ p
+payload-of-block e n p h =
+    ap (λ (m : ℕ). take m (drop 12 (block e n p))) (length-of-block e n p h)
+    ∙ ap (take (length p)) (rest-of-block e n p h 0 (omega arith))
+    ∙ take-append-seam p (replicate (496 - length p) 0 ++ check (front e n p))
+
+-- a field of the payload
+pub drop-block : (e n : ℕ) (p : List ℕ) → length p ≤ 496 → (k : ℕ) → k + 4 ≤ length p → number (take 4 (drop (12 + k) (block e n p))) ≡ number (take 4 (drop k p))
+drop-block e n p h k g =
+    ap (λ (l : List ℕ). number (take 4 l)) (rest-of-block e n p h k (omega arith))
+    ∙ ap number (take-append-le 4 (drop k p) (replicate (496 - length p) 0 ++ check (front e n p)) (omega (arith, length-drop k p)))
+
+zeros-every : (n : ℕ) → every (eqb 0) (replicate n 0) ≡ true
+zeros-every zero = refl
+zeros-every (suc n) = zeros-every n
+
+pub filled-up-block : (e n : ℕ) (p : List ℕ) → length p ≤ 496 → filled-up (block e n p) ≡ true
+unfolding filled-up block
+filled-up-block e n p h = ap (every (eqb 0)) rest ∙ zeros-every (496 - length p)
+  where
+    rest : drop (12 + length-of (block e n p)) (take 508 (block e n p)) ≡ replicate (496 - length p) 0
+    rest =
+        ap₂ (λ (m : ℕ) (l : List ℕ). drop (12 + m) l) (length-of-block e n p h) (front-of-block e n p h)
+        ∙ sym (drop-drop (length p) 12 (front e n p))
+        ∙ drop-append-seam p (replicate (496 - length p) 0)
+
+pub sound-block : (e n : ℕ) (p : List ℕ) → length p ≤ 496 → sound (block e n p) ≡ true
+unfolding sound
+sound-block e n p h =
+    both _ _ (eq-eqb (length (block e n p)) 512 (block-length e n p h))
+      (ap₂ (λ (f c : List ℕ). same (check f) c) (front-of-block e n p h) (check-of-block e n p h) ∙ same-refl (check (front e n p)))
+
+-- blocks that are the same are of the same number and payload
+pub block-same : (e e' n n' : ℕ) (p p' : List ℕ) → length p ≤ 496 → length p' ≤ 496 → n < 256 ^ 4 → n' < 256 ^ 4 → block e n p ≡ block e' n' p' → (n ≡ n') × (p ≡ p')
+block-same e e' n n' p p' h h' g g' q =
+    (sym (number-of-block e n p g) ∙ ap number-of q ∙ number-of-block e' n' p' g', sym (payload-of-block e n p h) ∙ ap payload-of q ∙ payload-of-block e' n' p' h')
