@@ -87,3 +87,62 @@ sound-block e n p h =
 pub block-same : (e e' n n' : ℕ) (p p' : List ℕ) → length p ≤ 496 → length p' ≤ 496 → n < 256 ^ 4 → n' < 256 ^ 4 → block e n p ≡ block e' n' p' → (n ≡ n') × (p ≡ p')
 block-same e e' n n' p p' h h' g g' q =
     (sym (number-of-block e n p g) ∙ ap number-of q ∙ number-of-block e' n' p' g', sym (payload-of-block e n p h) ∙ ap payload-of q ∙ payload-of-block e' n' p' h')
+
+-- ---- bytes that are fed
+
+pub sound-length : (b : List ℕ) → sound b ≡ true → length b ≡ 512
+unfolding sound
+sound-length b s = eqb-true (length b) 512 (parts _ _ s .0)
+
+pub sound-check : (b : List ℕ) → sound b ≡ true → check (take 508 b) ≡ drop 508 b
+unfolding sound
+sound-check b s = same-eq (check (take 508 b)) (drop 508 b) (parts (eqb (length b) 512) _ s .1)
+
+pub payload-length : (b : List ℕ) → sound b ≡ true → length-of b ≤ 496 → length (payload-of b) ≡ length-of b
+payload-length b s h = length-take-le (length-of b) (drop 12 b) (omega (arith, length-drop 12 b, sound-length b s))
+
+pub payload-bytes : (b : List ℕ) → all-bytes b ≡ true → all-bytes (payload-of b) ≡ true
+payload-bytes b h = every-take (λ x. ltb x 256) (length-of b) (drop 12 b) (every-drop (λ x. ltb x 256) 12 b h)
+
+-- k bytes from place i on, as the number of k bytes that they stand for
+pub field-is : (k i : ℕ) (b : List ℕ) → all-bytes b ≡ true → i + k ≤ length b → bytes k (number (take k (drop i b))) ≡ take k (drop i b)
+field-is k i b h g =
+    ap (λ (m : ℕ). bytes m (number (take k (drop i b)))) (sym (length-take-le k (drop i b) (omega (arith, length-drop i b))))
+    ∙ bytes-number (take k (drop i b)) (every-take (λ x. ltb x 256) k (drop i b) (every-drop (λ x. ltb x 256) i b h))
+
+-- they stand in the front f alone
+field-front : (k i : ℕ) (f c : List ℕ) → i + k ≤ length f → take k (drop i (f ++ c)) ≡ take k (drop i f)
+field-front k i f c g = ap (take k) (drop-append-le i f c (omega arith)) ∙ take-append-le k (drop i f) c (omega (arith, length-drop i f))
+
+every-zeros : (l : List ℕ) → every (eqb 0) l ≡ true → l ≡ replicate (length l) 0
+every-zeros [] h = refl
+every-zeros (x ∷ l) h =
+    let q = parts (eqb 0 x) (every (eqb 0) l) h in
+    ap₂ (λ (y : ℕ) (ys : List ℕ). y ∷ ys) (sym (eqb-true 0 x (q .0))) (every-zeros l (q .1))
+
+-- the first 508 bytes
+front-is : (f : List ℕ) → all-bytes f ≡ true → length f ≡ 508 → length-of f ≤ 496 → number (take 2 (drop 10 f)) ≡ 0 → every (eqb 0) (drop (12 + length-of f) f) ≡ true → f ≡ front (edition-of f) (number-of f) (payload-of f)
+front-is f h l g z r =
+    sym (take-append-drop 4 f)
+    ∙ ap₂ cat (sym (field-is 4 0 f h (omega arith)))
+        (part 4 4
+         ∙ ap₂ cat (sym (field-is 4 4 f h (omega arith)))
+             (part 2 8
+              ∙ ap₂ cat (sym (field-is 2 8 f h (omega arith)) ∙ ap (bytes 2) (sym n))
+                  (part 2 10
+                   ∙ ap₂ cat (sym (field-is 2 10 f h (omega arith)) ∙ ap (bytes 2) z)
+                       (part (length-of f) 12 ∙ ap (cat (payload-of f)) rest))))
+  where
+    cat : List ℕ → List ℕ → List ℕ
+    cat x y = x ++ y
+
+    part : (k i : ℕ) → drop i f ≡ take k (drop i f) ++ drop (i + k) f
+    part k i = sym (take-append-drop k (drop i f)) ∙ ap (cat (take k (drop i f))) (drop-drop k i f)
+
+    n : length (payload-of f) ≡ length-of f
+    n = length-take-le (length-of f) (drop 12 f) (omega (arith, length-drop 12 f))
+
+    rest : drop (12 + length-of f) f ≡ replicate (496 - length (payload-of f)) 0
+    rest =
+        let e : length (drop (12 + length-of f) f) ≡ 496 - length (payload-of f) = omega (arith, length-drop (12 + length-of f) f, n) in
+        every-zeros (drop (12 + length-of f) f) r ∙ ap (λ (m : ℕ). replicate m 0) e
