@@ -146,3 +146,28 @@ front-is f h l g z r =
     rest =
         let e : length (drop (12 + length-of f) f) ≡ 496 - length (payload-of f) = omega (arith, length-drop (12 + length-of f) f, n) in
         every-zeros (drop (12 + length-of f) f) r ∙ ap (λ (m : ℕ). replicate m 0) e
+
+-- sound bytes whose zero bytes are zero are a block, of what they say
+pub block-is : (b : List ℕ) → all-bytes b ≡ true → sound b ≡ true → filled-up b ≡ true → length-of b ≤ 496 → b ≡ block (edition-of b) (number-of b) (payload-of b)
+unfolding block filled-up
+block-is b h s z g =
+    whole
+    ∙ ap (λ (x : List ℕ). x ++ check x)
+        (front-is f (every-take (λ x. ltb x 256) 508 b h) lf (omega (arith, len)) (ap number (sym (at 2 10 (omega arith))) ∙ eqb-true (number (take 2 (drop 10 b))) 0 (parts _ _ z .0)) (ap (λ (m : ℕ). every (eqb 0) (drop (12 + m) f)) len ∙ parts (eqb (number (take 2 (drop 10 b))) 0) _ z .1)
+         ∙ ap (λ (x : ℕ). front (edition-of f) x (payload-of f)) (ap number (sym (at 4 0 (omega arith))))
+         ∙ ap₂ (λ (x : ℕ) (p : List ℕ). front x (number-of b) p) (ap number (sym (at 4 4 (omega arith)))) (ap (λ (m : ℕ). take m (drop 12 f)) len ∙ sym (at (length-of b) 12 (omega arith))))
+  where
+    f : List ℕ
+    f = take 508 b
+
+    lf : length f ≡ 508
+    lf = length-take-le 508 b (omega (arith, sound-length b s))
+
+    whole : b ≡ f ++ check f
+    whole = sym (take-append-drop 508 b) ∙ ap (λ (c : List ℕ). f ++ c) (sym (sound-check b s))
+
+    at : (k i : ℕ) → i + k ≤ 508 → take k (drop i b) ≡ take k (drop i f)
+    at k i j = ap (λ (l : List ℕ). take k (drop i l)) (sym (take-append-drop 508 b)) ∙ field-front k i f (drop 508 b) (omega (arith, lf))
+
+    len : length-of f ≡ length-of b
+    len = ap number (sym (at 2 8 (omega arith)))
