@@ -3,15 +3,14 @@ use Prim.Native.Nat.{ℕ, zero, suc, _+_, _-_, _*_, _%_, _<_, _≤_}
 use mathlib.Core.Path.{_≡_, refl, sym, _∙_, ap}
 use mathlib.Core.List.{List, [], _∷_}
 use mathlib.Core.Bool.{Bool, true, false}
-use lib.Dec.{ltb}
+use lib.Dec.{leb, ltb}
 use lib.ListN.{length, take, drop, getD, set, length-set}
 use lib.Seq.{length-take-le, take-set-le, drop-set-lt, take-set-lt, getD-set-same, getD-take, getD-drop}
 use native.Mathlib.Omega.{arith}
 use borrow.Author.Tests.{ltb-true, leb-true, leb-false}
-use lib.Dec.{leb}
 use Rattle.words.specs.Lists.{every}
 use Rattle.words.specs.Bytes.{bytes, number, numbers}
-use Rattle.words.proofs.ByteLaws.{parts, all-bytes, number-bytes}
+use Rattle.words.proofs.ByteLaws.{parts, all-bytes, number-bytes, every-take}
 use Rattle.card_block.specs.Block.{summed, check, sound}
 use Rattle.card_block.proofs.BlockLaws.{sound-length, sound-check}
 use Rattle.card_block.proofs.SumLaws.{total, summed-a, summed-below}
@@ -52,3 +51,48 @@ pub a-set : (n : ℕ) → n ≡ 254 → (bs : List ℕ) → all-bytes bs ≡ tru
 a-set n e bs h i v g l u q =
     adds-same i v (getD bs i 0)
       (omega (arith, total-set n bs i v (omega arith) l, adds-below i v u, adds-below i (getD bs i 0) (byte-at bs i h), sym (summed-a n (set bs i v) e) ∙ q ∙ summed-a n bs e))
+
+-- ---- what is refused
+
+unsound : (b : List ℕ) → (sound b ≡ true → ⊥) → sound b ≡ false
+unsound b h = go (sound b) h
+  where
+    go : (t : Bool) → (t ≡ true → ⊥) → t ≡ false
+    go true k = absurd (k refl)
+    go false k = refl
+
+pub short-unsound : (b : List ℕ) → (length b ≡ 512 → ⊥) → sound b ≡ false
+short-unsound b h = unsound b (λ s. h (sound-length b s))
+
+-- a check tells its first sum
+check-a : (bs cs : List ℕ) → check bs ≡ check cs → summed bs .a ≡ summed cs .a
+check-a bs cs q =
+    sym (number-bytes 2 (summed bs .a) (omega (arith, summed-below bs .0)))
+    ∙ ap (λ (l : List ℕ). number (take 2 l)) q
+    ∙ number-bytes 2 (summed cs .a) (omega (arith, summed-below cs .0))
+
+-- sound before and after: the byte is what it was
+pub sound-set : (b : List ℕ) → all-bytes b ≡ true → sound b ≡ true → (i v : ℕ) → i < 512 → v < 256 → sound (set b i v) ≡ true → v ≡ getD b i 0
+sound-set b h s i v g u t = go (leb 508 i) refl
+  where
+    l : length b ≡ 512
+    l = sound-length b s
+
+    go : (x : Bool) → leb 508 i ≡ x → v ≡ getD b i 0
+    go true x =
+        let k = leb-true 508 i x in
+        let j : 508 + (i - 508) ≡ i = omega arith in
+        let at : (c : List ℕ) → getD (drop 508 c) (i - 508) 0 ≡ getD c i 0 = λ c. getD-drop 508 c (i - 508) 0 ∙ ap (λ (m : ℕ). getD c m 0) j in
+        sym (getD-set-same b i v 0 (omega (arith, l)))
+        ∙ sym (at (set b i v))
+        ∙ ap (λ (c : List ℕ). getD c (i - 508) 0) (sym (sound-check (set b i v) t) ∙ ap check (take-set-le 508 b i v k) ∙ sound-check b s)
+        ∙ at b
+    go false x =
+        let k = leb-false 508 i x in
+        let q : check (set (take 508 b) i v) ≡ check (take 508 b) = ap check (sym (take-set-lt 508 b i v k)) ∙ sound-check (set b i v) t ∙ drop-set-lt 508 b i v k ∙ sym (sound-check b s) in
+        a-set 254 refl (take 508 b) (every-take (λ x. ltb x 256) 508 b h) i v k (omega (arith, length-take-le 508 b (omega (arith, l)))) u (check-a (set (take 508 b) i v) (take 508 b) q)
+        ∙ getD-take 508 b i 0 k
+
+-- a block in which one byte was changed is refused
+pub changed-unsound : (b : List ℕ) → all-bytes b ≡ true → sound b ≡ true → (i v : ℕ) → i < 512 → v < 256 → (v ≡ getD b i 0 → ⊥) → sound (set b i v) ≡ false
+changed-unsound b h s i v g u d = unsound (set b i v) (λ t. d (sound-set b h s i v g u t))
