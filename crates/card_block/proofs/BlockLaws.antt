@@ -2,7 +2,7 @@
 use Prim.Native.Nat.{ℕ, zero, suc, _+_, _-_, _^_, _<_, _≤_}
 use mathlib.Core.Path.{_≡_, refl, sym, _∙_, ap, ap₂}
 use mathlib.Core.List.{List, [], _∷_, _++_, append-assoc}
-use mathlib.Core.Bool.{Bool, true, false, _&&_}
+use mathlib.Core.Bool.{true}
 use lib.Dec.{eqb, ltb}
 use lib.ListN.{length, take, drop, replicate, length-append, length-replicate, length-drop, take-append-drop}
 use lib.Seq.{take-at, drop-at, take-append-le, drop-append-le, take-append-seam, drop-append-seam, drop-drop, length-take-le}
@@ -11,7 +11,7 @@ use borrow.Author.Tests.{eqb-true, eq-eqb}
 use Rattle.words.specs.Lists.{every, same}
 use Rattle.words.specs.Bytes.{bytes, number}
 use Rattle.words.proofs.ListLaws.{same-refl, same-eq}
-use Rattle.words.proofs.ByteLaws.{both, parts, all-bytes, length-bytes, number-bytes, bytes-number, every-take, every-drop}
+use Rattle.words.proofs.ByteLaws.{both, parts, all-bytes, number-bytes, bytes-number, every-take, every-drop}
 use Rattle.card_block.specs.Block.{check, front, block, sound, number-of, edition-of, length-of, payload-of, filled-up}
 
 -- ---- a block that is written
@@ -80,8 +80,8 @@ filled-up-block e n p h = ap (every (eqb 0)) rest ∙ zeros-every (496 - length 
 pub sound-block : (e n : ℕ) (p : List ℕ) → length p ≤ 496 → sound (block e n p) ≡ true
 unfolding sound
 sound-block e n p h =
-    both _ _ (eq-eqb (length (block e n p)) 512 (block-length e n p h))
-      (ap₂ (λ (f c : List ℕ). same (check f) c) (front-of-block e n p h) (check-of-block e n p h) ∙ same-refl (check (front e n p)))
+    let c : same (check (take 508 (block e n p))) (drop 508 (block e n p)) ≡ true = ap₂ (λ (x y : List ℕ). same (check x) y) (front-of-block e n p h) (check-of-block e n p h) ∙ same-refl (check (front e n p)) in
+    both _ _ (eq-eqb (length (block e n p)) 512 (block-length e n p h)) c
 
 -- blocks that are the same are of the same number and payload
 pub block-same : (e e' n n' : ℕ) (p p' : List ℕ) → length p ≤ 496 → length p' ≤ 496 → n < 256 ^ 4 → n' < 256 ^ 4 → block e n p ≡ block e' n' p' → (n ≡ n') × (p ≡ p')
@@ -123,15 +123,12 @@ every-zeros (x ∷ l) h =
 -- the first 508 bytes
 front-is : (f : List ℕ) → all-bytes f ≡ true → length f ≡ 508 → length-of f ≤ 496 → number (take 2 (drop 10 f)) ≡ 0 → every (eqb 0) (drop (12 + length-of f) f) ≡ true → f ≡ front (edition-of f) (number-of f) (payload-of f)
 front-is f h l g z r =
-    sym (take-append-drop 4 f)
-    ∙ ap₂ cat (sym (field-is 4 0 f h (omega arith)))
-        (part 4 4
-         ∙ ap₂ cat (sym (field-is 4 4 f h (omega arith)))
-             (part 2 8
-              ∙ ap₂ cat (sym (field-is 2 8 f h (omega arith)) ∙ ap (bytes 2) (sym n))
-                  (part 2 10
-                   ∙ ap₂ cat (sym (field-is 2 10 f h (omega arith)) ∙ ap (bytes 2) z)
-                       (part (length-of f) 12 ∙ ap (cat (payload-of f)) rest))))
+    let payload : drop 12 f ≡ payload-of f ++ replicate (496 - length (payload-of f)) 0 = part (length-of f) 12 ∙ ap (cat (payload-of f)) rest in
+    let zeros : take 2 (drop 10 f) ≡ bytes 2 0 = sym (field-is 2 10 f h (omega arith)) ∙ ap (bytes 2) z in
+    let size : take 2 (drop 8 f) ≡ bytes 2 (length (payload-of f)) = sym (field-is 2 8 f h (omega arith)) ∙ ap (bytes 2) (sym n) in
+    let edition : take 4 (drop 4 f) ≡ bytes 4 (edition-of f) = sym (field-is 4 4 f h (omega arith)) in
+    let place : take 4 f ≡ bytes 4 (number-of f) = sym (field-is 4 0 f h (omega arith)) in
+    part 4 0 ∙ ap₂ cat place (part 4 4 ∙ ap₂ cat edition (part 2 8 ∙ ap₂ cat size (part 2 10 ∙ ap₂ cat zeros payload)))
   where
     cat : List ℕ → List ℕ → List ℕ
     cat x y = x ++ y
@@ -151,11 +148,16 @@ front-is f h l g z r =
 pub block-is : (b : List ℕ) → all-bytes b ≡ true → sound b ≡ true → filled-up b ≡ true → length-of b ≤ 496 → b ≡ block (edition-of b) (number-of b) (payload-of b)
 unfolding block filled-up
 block-is b h s z g =
+    let zeros : number (take 2 (drop 10 f)) ≡ 0 = ap number (sym (at 2 10 (omega arith))) ∙ eqb-true (number (take 2 (drop 10 b))) 0 (parts _ _ z .0) in
+    let rest : every (eqb 0) (drop (12 + length-of f) f) ≡ true = ap (λ (m : ℕ). every (eqb 0) (drop (12 + m) f)) len ∙ parts (eqb (number (take 2 (drop 10 b))) 0) _ z .1 in
+    let edition : edition-of f ≡ edition-of b = ap number (sym (at 4 4 (omega arith))) in
+    let place : number-of f ≡ number-of b = ap number (sym (at 4 0 (omega arith))) in
+    let payload : payload-of f ≡ payload-of b = ap (λ (m : ℕ). take m (drop 12 f)) len ∙ sym (at (length-of b) 12 (omega arith)) in
+    let made : f ≡ front (edition-of f) (number-of f) (payload-of f) = front-is f (every-take (λ x. ltb x 256) 508 b h) lf (omega (arith, len)) zeros rest in
     whole
-    ∙ ap (λ (x : List ℕ). x ++ check x)
-        (front-is f (every-take (λ x. ltb x 256) 508 b h) lf (omega (arith, len)) (ap number (sym (at 2 10 (omega arith))) ∙ eqb-true (number (take 2 (drop 10 b))) 0 (parts _ _ z .0)) (ap (λ (m : ℕ). every (eqb 0) (drop (12 + m) f)) len ∙ parts (eqb (number (take 2 (drop 10 b))) 0) _ z .1)
-         ∙ ap (λ (x : ℕ). front (edition-of f) x (payload-of f)) (ap number (sym (at 4 0 (omega arith))))
-         ∙ ap₂ (λ (x : ℕ) (p : List ℕ). front x (number-of b) p) (ap number (sym (at 4 4 (omega arith)))) (ap (λ (m : ℕ). take m (drop 12 f)) len ∙ sym (at (length-of b) 12 (omega arith))))
+    ∙ ap (λ (x : List ℕ). x ++ check x) made
+    ∙ ap₂ (λ (x y : ℕ). block x y (payload-of f)) edition place
+    ∙ ap (block (edition-of b) (number-of b)) payload
   where
     f : List ℕ
     f = take 508 b

@@ -1,10 +1,10 @@
 -- A block in which one byte was changed is refused (request 106). Assumes nothing.
-use Prim.Native.Nat.{ℕ, zero, suc, _+_, _-_, _*_, _%_, _<_, _≤_}
+use Prim.Native.Nat.{ℕ, zero, suc, _+_, _-_, _*_, _<_, _≤_}
 use mathlib.Core.Path.{_≡_, refl, sym, _∙_, ap}
 use mathlib.Core.List.{List, [], _∷_}
 use mathlib.Core.Bool.{Bool, true, false}
 use lib.Dec.{leb, ltb}
-use lib.ListN.{length, take, drop, getD, set, length-set}
+use lib.ListN.{length, take, drop, getD, set}
 use lib.Seq.{length-take-le, take-set-le, drop-set-lt, take-set-lt, getD-set-same, getD-take, getD-drop}
 use native.Mathlib.Omega.{arith}
 use borrow.Author.Tests.{ltb-true, leb-true, leb-false}
@@ -49,8 +49,9 @@ byte-at (x ∷ bs) (suc i) h = byte-at bs i (parts (ltb x 256) _ h .1)
 -- the first sum, one byte changed
 pub a-set : (n : ℕ) → n ≡ 254 → (bs : List ℕ) → all-bytes bs ≡ true → (i v : ℕ) → i < 508 → i < length bs → v < 256 → summed (set bs i v) .a ≡ summed bs .a → v ≡ getD bs i 0
 a-set n e bs h i v g l u q =
-    adds-same i v (getD bs i 0)
-      (omega (arith, total-set n bs i v (omega arith) l, adds-below i v u, adds-below i (getD bs i 0) (byte-at bs i h), sym (summed-a n (set bs i v) e) ∙ q ∙ summed-a n bs e))
+    let t = total-set n bs i v (omega arith) l in
+    let r = sym (summed-a n (set bs i v) e) ∙ q ∙ summed-a n bs e in
+    adds-same i v (getD bs i 0) (omega (arith, t, r, adds-below i v u, adds-below i (getD bs i 0) (byte-at bs i h)))
 
 -- ---- what is refused
 
