@@ -1,2 +1,3 @@
 pub mod OverLaws
 pub mod RelaidLaws
+pub mod PromiseLaws

@@ -11,7 +11,7 @@ use native.Mathlib.Nat.{pow-suc, pow-succ', div-lt-iff-lt-mul, mul-suc, mul-zero
 use native.Mathlib.Omega.{arith}
 use borrow.Author.Tests.{ltb-true, lt-ltb, ltb-false, le-ltb}
 use Rattle.words.specs.Lists.{every}
-use Rattle.words.specs.Bytes.{bytes, number, spelt, numbers, unsigned, signed}
+use Rattle.words.specs.Bytes.{bytes, number, spelt, numbers, unsigned, signed, signed-in}
 use Rattle.words.proofs.ListLaws.{every-append}
 
 pub both : (a b : Bool) → a ≡ true → b ≡ true → (a && b) ≡ true
@@ -116,11 +116,6 @@ length-numbers k zero bs = refl
 length-numbers k (suc n) bs = ap suc (length-numbers k n (drop k bs))
 
 -- ---- signed values
-
--- a value that has room in k bytes
-abbrev pub signed-in : ℕ → ℤ → Bool
-signed-in k (pos x) = ltb (2 * x) (256 ^ k)
-signed-in k (negsuc x) = ltb (2 * x + 1) (256 ^ k)
 
 pub unsigned-signed : (k x : ℕ) → x < 256 ^ k → unsigned k (signed k x) ≡ x
 unsigned-signed k x h = go (ltb (2 * x) (256 ^ k))

@@ -1,7 +1,7 @@
 -- Numbers as bytes, low byte first throughout, as document 02 writes them on a card. Assumes nothing.
 use Prim.Native.Nat.{ℕ, zero, suc, _+_, _-_, _*_, _/_, _%_, _^_}
 use mathlib.Core.List.{List, [], _∷_, _++_}
-use mathlib.Core.Bool.{cond}
+use mathlib.Core.Bool.{Bool, cond}
 use lib.Dec.{ltb}
 use lib.IntN.{ℤ, pos, negsuc}
 use lib.ListN.{take, drop}
@@ -33,3 +33,8 @@ unsigned k (negsuc x) = 256 ^ k - suc x
 
 abbrev pub signed : ℕ → ℕ → ℤ
 signed k x = cond (ltb (2 * x) (256 ^ k)) (pos x) (negsuc (256 ^ k - suc x))
+
+-- it has room in k bytes
+abbrev pub signed-in : ℕ → ℤ → Bool
+signed-in k (pos x) = ltb (2 * x) (256 ^ k)
+signed-in k (negsuc x) = ltb (2 * x + 1) (256 ^ k)
