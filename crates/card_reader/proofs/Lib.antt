@@ -1,3 +1,4 @@
 pub mod OverLaws
 pub mod RelaidLaws
+pub mod UnitLaws
 pub mod PromiseLaws

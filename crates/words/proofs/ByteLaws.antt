@@ -7,7 +7,7 @@ use lib.Dec.{eqb, ltb}
 use lib.IntN.{ℤ, pos, negsuc}
 use lib.ListN.{length, take, drop, length-append, length-drop, take-append-drop}
 use lib.Seq.{take-at, drop-at, take-add, length-take-le}
-use native.Mathlib.Nat.{pow-suc, pow-succ', div-lt-iff-lt-mul, mul-suc, mul-zero, mul-comm, zero-add, suc-add, div-one, div-div-eq-div-mul}
+use native.Mathlib.Nat.{pow-suc, pow-succ', div-lt-iff-lt-mul, mul-suc, mul-zero, mul-comm, zero-add, suc-add, div-one, div-div-eq-div-mul, mul-assoc, mod-eq-of-lt, add-mul-mod-self-left}
 use native.Mathlib.Omega.{arith}
 use borrow.Author.Tests.{ltb-true, lt-ltb, ltb-false, le-ltb}
 use Rattle.words.specs.Lists.{every}
@@ -66,6 +66,31 @@ bytes-number (b ∷ bs) h =
 pub bytes-add : (j k x : ℕ) → bytes (j + k) x ≡ bytes j x ++ bytes k (x / 256 ^ j)
 bytes-add zero k x = ap₂ bytes (zero-add k) (sym (div-one x))
 bytes-add (suc j) k x = ap (λ (m : ℕ). bytes m x) (suc-add j k) ∙ ap (λ (l : List ℕ). x % 256 ∷ l) (bytes-add j k (x / 256) ∙ ap (λ (y : ℕ). bytes j (x / 256) ++ bytes k y) (div-div-eq-div-mul x 256 (256 ^ j) ∙ ap (λ (m : ℕ). x / m) (sym (pow-succ' 256 j))))
+
+-- a number is what its low bytes stand for, and the rest
+number-rest : (k x : ℕ) → number (bytes k x) + 256 ^ k * (x / 256 ^ k) ≡ x
+number-rest zero x = omega (arith, div-one x)
+number-rest (suc k) x =
+    let i = number-rest k (x / 256) in
+    let d : x / 256 ^ suc k ≡ x / 256 / 256 ^ k = ap (λ (m : ℕ). x / m) (pow-succ' 256 k) ∙ sym (div-div-eq-div-mul x 256 (256 ^ k)) in
+    let m : 256 ^ suc k * (x / 256 ^ suc k) ≡ 256 * (256 ^ k * (x / 256 / 256 ^ k)) = ap₂ (λ (a b : ℕ). a * b) (pow-succ' 256 k) d ∙ mul-assoc 256 (256 ^ k) (x / 256 / 256 ^ k) in
+    omega (arith, i, m)
+
+pub number-low : (k x : ℕ) → number (bytes k x) ≡ x % 256 ^ k
+number-low k x =
+    sym (mod-eq-of-lt (subst (λ (n : ℕ). number (bytes k x) < 256 ^ n) (length-bytes k x) (number-below (bytes k x) (bytes-are k x))))
+    ∙ sym (add-mul-mod-self-left (number (bytes k x)) (256 ^ k) (x / 256 ^ k))
+    ∙ ap (λ (y : ℕ). y % 256 ^ k) (number-rest k x)
+
+pub bytes-low : (k x : ℕ) → bytes k (x % 256 ^ k) ≡ bytes k x
+bytes-low k x = ap (bytes k) (sym (number-low k x)) ∙ ap (λ (n : ℕ). bytes n (number (bytes k x))) (sym (length-bytes k x)) ∙ bytes-number (bytes k x) (bytes-are k x)
+
+pub number-append : (a b : List ℕ) → number (a ++ b) ≡ number a + 256 ^ length a * number b
+number-append [] b = omega arith
+number-append (x ∷ a) b =
+    let i = number-append a b in
+    let m : 256 ^ suc (length a) * number b ≡ 256 * (256 ^ length a * number b) = ap (λ (y : ℕ). y * number b) (pow-succ' 256 (length a)) ∙ mul-assoc 256 (256 ^ length a) (number b) in
+    omega (arith, i, m)
 
 -- ---- numbers one after the other
 
