@@ -11,7 +11,7 @@ use lib.Seq.{drop-append-seam}
 use lib.IntN.{ℤ, sucℤ}
 use lib.Signed.{ltZ}
 use borrow.Author.Tests.{ltb-true, ltb-false, lt-ltb, le-ltb}
-use Rattle.words.specs.Lists.{joined, every, after}
+use Rattle.words.specs.Lists.{ceil, joined, every, after}
 use Rattle.words.specs.Numbers.{numbered, most-rows}
 use Rattle.words.proofs.BitOps.{share-and, outside-and}
 use Rattle.bins.specs.Bins.{Kind, most-lines, bins, good-borders}
@@ -24,7 +24,7 @@ use Rattle.dictionary.proofs.PositionLaws.{Sized, entries-sized}
 use Rattle.column_index.specs.Index.{line-count, is-index-for}
 use Rattle.run_search.specs.Search.{Answer, with-line, search-by}
 use Rattle.run_search.specs.loops.Runs.{Asked, asking, held, values, through, Readable}
-use Rattle.column_index.specs.Promise.{checked-answer, search-answer, search-room, search-number, Searches}
+use Rattle.column_index.specs.Promise.{checked-rows, checked-answer, search-answer, search-room, search-number, Searches}
 use Rattle.column_index.specs.declared.IndexCheck.{IndexCheck}
 use Rattle.column_index.specs.declared.IndexCheck.the-variants as checking
 use Rattle.column_index.specs.declared.SearchAnswer.{SearchAnswer}
@@ -84,22 +84,21 @@ search-by-through k p bs ds is col low high l a =
 
 -- ---- the checks, in their order
 
-module _ (k : Kind) (col bs : List ℤ) (is ds : List ℕ) where
-  pub checked-long : most-rows < length col → checking.TooLong ≡ checked-answer k col bs is ds
-  unfolding checked-answer
-  checked-long h = sym (ap (λ (b : Bool). cond b checking.TooLong (cond (not (good-borders bs)) checking.BadBorders (cond (not (is-index-for k bs col ds is)) checking.NoIndex checking.Fine))) (lt-ltb most-rows (length col) h))
+module _ (k : Kind) (rows : ℕ) (bs : List ℤ) (is ds : List ℕ) where
+  pub checked-long : most-rows < rows → checking.TooLong ≡ checked-rows k rows bs is ds
+  checked-long h = sym (ap (λ (b : Bool). cond b checking.TooLong (cond (not (good-borders bs)) checking.BadBorders (cond (not (accepted largest (bins bs) (ceil rows (k .per)) ds is)) checking.NoIndex checking.Fine))) (lt-ltb most-rows rows h))
 
   -- past the first check, by the two tests that are left
-  pub checked-rest : length col ≤ most-rows → (g a : Bool) → good-borders bs ≡ g → is-index-for k bs col ds is ≡ a → cond (not g) checking.BadBorders (cond (not a) checking.NoIndex checking.Fine) ≡ checked-answer k col bs is ds
-  unfolding checked-answer
+  pub checked-rest : rows ≤ most-rows → (g a : Bool) → good-borders bs ≡ g → accepted largest (bins bs) (ceil rows (k .per)) ds is ≡ a → cond (not g) checking.BadBorders (cond (not a) checking.NoIndex checking.Fine) ≡ checked-rows k rows bs is ds
   checked-rest h g a p q =
-      sym (ap (λ (b : Bool). cond b checking.TooLong (cond (not (good-borders bs)) checking.BadBorders (cond (not (is-index-for k bs col ds is)) checking.NoIndex checking.Fine))) (le-ltb most-rows (length col) h)
+      sym (ap (λ (b : Bool). cond b checking.TooLong (cond (not (good-borders bs)) checking.BadBorders (cond (not (accepted largest (bins bs) (ceil rows (k .per)) ds is)) checking.NoIndex checking.Fine))) (le-ltb most-rows rows h)
       ∙ ap₂ (λ (x y : Bool). cond (not x) checking.BadBorders (cond (not y) checking.NoIndex checking.Fine)) p q)
 
   -- bad borders, whatever the words
-  pub checked-borders : length col ≤ most-rows → good-borders bs ≡ false → checking.BadBorders ≡ checked-answer k col bs is ds
-  checked-borders h p = checked-rest h false (is-index-for k bs col ds is) p refl
+  pub checked-borders : rows ≤ most-rows → good-borders bs ≡ false → checking.BadBorders ≡ checked-rows k rows bs is ds
+  checked-borders h p = checked-rest h false (accepted largest (bins bs) (ceil rows (k .per)) ds is) p refl
 
+module _ (k : Kind) (col bs : List ℤ) (is ds : List ℕ) where
   -- what a passed check says
   pub record Passed : Type 0 where
     pub few-rows : length col ≤ most-rows

@@ -14,13 +14,18 @@ ghost use Rattle.bins.specs.Bins.{readings, most-lines};
 ghost use Rattle.dictionary.specs.Dictionary.{unpack};
 ghost use Rattle.run_search.specs.loops.Runs.{through, Readable};
 ghost use Rattle.reading_search.specs.loops.Ask.{asked-of};
-ghost use Rattle.column_index.specs.Promise.{Searches, search-room, search-number, checked-answer};
+ghost use Rattle.column_index.specs.Promise.{Searches, search-room, search-number, checked-rows, checked-answer};
 
-// The checks 2, 5 and 3.
-pub fn checked(column: &[i32], borders: &[i32], imprints: &[u64], dictionary: &[u32]) -> IndexCheck
-    ensures { λ r. ⌜ r ≡ checked-answer readings (now (column .entry)) (now (borders .entry)) (now (imprints .entry)) (now (dictionary .entry)) ⌝ }
+// The checks 2, 5 and 3, of words that are to be an index for so many rows.
+pub fn checked_rows(
+    rows: usize,
+    borders: &[i32],
+    imprints: &[u64],
+    dictionary: &[u32],
+) -> IndexCheck
+    ensures { λ r. ⌜ r ≡ checked-rows readings rows (now (borders .entry)) (now (imprints .entry)) (now (dictionary .entry)) ⌝ }
 {
-    if words::MOST_ROWS < column.len() {
+    if words::MOST_ROWS < rows {
         return IndexCheck::TooLong;
     }
     if reading_bins::good_borders(borders) {
@@ -29,13 +34,20 @@ pub fn checked(column: &[i32], borders: &[i32], imprints: &[u64], dictionary: &[
             dictionary,
             imprints,
             n,
-            reading_lines::line_count(column.len()),
+            reading_lines::line_count(rows),
         ) {
             return IndexCheck::Fine;
         }
         return IndexCheck::NoIndex;
     }
     IndexCheck::BadBorders
+}
+
+// The same of words that are to be one for this column.
+pub fn checked(column: &[i32], borders: &[i32], imprints: &[u64], dictionary: &[u32]) -> IndexCheck
+    ensures { λ r. ⌜ r ≡ checked-answer readings (now (column .entry)) (now (borders .entry)) (now (imprints .entry)) (now (dictionary .entry)) ⌝ }
+{
+    checked_rows(column.len(), borders, imprints, dictionary)
 }
 
 // A search whose checks are passed: its rows are counted, and listed where there is room for them all.
