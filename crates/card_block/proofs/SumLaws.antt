@@ -1,8 +1,8 @@
 -- The two sums of the check, without a remainder at each step: plain and weighed sums of the numbers. Assumes nothing.
-use Prim.Native.Nat.{ℕ, zero, suc, _+_, _-_, _*_, _/_, _%_, _<_, _≤_}
-use mathlib.Core.Path.{_≡_, refl, sym, _∙_, ap}
+use Prim.Native.Nat.{ℕ, suc, _+_, _-_, _*_, _/_, _%_, _<_}
+use mathlib.Core.Path.{_≡_, sym, _∙_, ap}
 use mathlib.Core.List.{List, [], _∷_}
-use native.Mathlib.Nat.{mod-add-mod, mod-eq-of-lt, mod-lt, div-add-mod, mul-add-mod-self-left, mul-add, mul-left-comm, suc-mul, zero-add, mul-zero}
+use native.Mathlib.Nat.{mod-add-mod, mod-lt, div-add-mod, mul-add-mod-self-left, mul-add, mul-left-comm, suc-mul, zero-add, mul-zero}
 use native.Mathlib.Omega.{arith}
 use lib.ListN.{length}
 use Rattle.words.specs.Bytes.{numbers}

@@ -1,0 +1,64 @@
+-- `card_block::put_number` meets its contract. Assumes nothing.
+use native.Mathlib.Omega.{arith}
+use lib.ListN.{length-set}
+use Rattle.card_block.proofs.PlaceLaws.{four-put}
+use borrow.Author.Needs.{needs}
+use Rattle.card_block.proofs.put_number.Statement.{statement}
+use Rattle.card_block.proofs.put_number.Tie as tie
+
+cast-block : tie.Need-cast-block
+cast-block c = search needs
+
+slice-write-block : tie.Need-slice-write-block
+slice-write-block c = search needs
+
+cast-block-2 : tie.Need-cast-block-2
+cast-block-2 c = search needs
+
+add-block : tie.Need-add-block
+add-block c = search needs
+
+slice-write-block-2 : tie.Need-slice-write-block-2
+slice-write-block-2 c = simp length-set (omega arith)
+
+cast-block-3 : tie.Need-cast-block-3
+cast-block-3 c = search needs
+
+add-block-2 : tie.Need-add-block-2
+add-block-2 c = search needs
+
+slice-write-block-3 : tie.Need-slice-write-block-3
+slice-write-block-3 c = simp length-set (omega arith)
+
+cast-block-4 : tie.Need-cast-block-4
+cast-block-4 c = search needs
+
+add-block-3 : tie.Need-add-block-3
+add-block-3 c = search needs
+
+slice-write-block-4 : tie.Need-slice-write-block-4
+slice-write-block-4 c = simp length-set (omega arith)
+
+same-length : tie.Need-same-length
+same-length c = search needs
+
+returns : tie.Need-returns
+returns c = four-put (c .args .block .now) (c .args .at) (c .args .x) (c .fits .x .fits)
+
+pub put-number-spec : {M : Type 1} → statement M
+put-number-spec =
+    tie.close
+    (tie.spec
+    cast-block
+    slice-write-block
+    cast-block-2
+    add-block
+    slice-write-block-2
+    cast-block-3
+    add-block-2
+    slice-write-block-3
+    cast-block-4
+    add-block-3
+    slice-write-block-4
+    same-length
+    returns)
