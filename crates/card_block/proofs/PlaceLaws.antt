@@ -2,10 +2,13 @@
 use Prim.Native.Nat.{ℕ, suc, _+_, _*_, _/_, _%_, _<_, _≤_}
 use mathlib.Core.Path.{_≡_, sym, _∙_, ap}
 use mathlib.Core.List.{List, [], _∷_}
+use mathlib.Core.Bool.{true, _&&_}
 use native.Mathlib.Omega.{arith}
 use lib.ListN.{length, getD, take, drop, set}
 use lib.Seq.{sets, drop-cons}
+use borrow.Author.Tests.{lt-ltb}
 use Rattle.words.specs.Bytes.{bytes, number}
+use Rattle.words.proofs.ByteLaws.{all-bytes, bytes-number}
 
 low-of : (a b : ℕ) → a < 256 → (a + b * 256) % 256 ≡ a
 low-of a b h = omega arith
@@ -35,10 +38,13 @@ module _ (l : List ℕ) (at : ℕ) where
       let z : a + b * 256 ≡ a + 256 * (b + 256 * 0) = omega arith in
       (z ∙ ap number (sym t), (λ i. low-of a b k i ∷ high-of a b k m i ∷ []) ∙ sym t, omega arith)
 
-  pub four-read : at + 4 ≤ length l → (a b c d : ℕ) → a ≡ getD l at 0 → b ≡ getD l (at + 1) 0 → c ≡ getD l (at + 2) 0 → d ≡ getD l (at + 3) 0 → a + b * 256 + c * 65536 + d * 16777216 ≡ number (take 4 (drop at l))
-  four-read h a b c d p q r s =
+  pub four-read : at + 4 ≤ length l → (a b c d : ℕ) → a ≡ getD l at 0 → b ≡ getD l (at + 1) 0 → c ≡ getD l (at + 2) 0 → d ≡ getD l (at + 3) 0 → a < 256 → b < 256 → c < 256 → d < 256
+      → (a + b * 256 + c * 65536 + d * 16777216 ≡ number (take 4 (drop at l))) × (bytes 4 (a + b * 256 + c * 65536 + d * 16777216) ≡ take 4 (drop at l))
+  four-read h a b c d p q r s k m n o =
       let z : a + b * 256 + c * 65536 + d * 16777216 ≡ a + 256 * (b + 256 * (c + 256 * (d + 256 * 0))) = omega arith in
-      z ∙ ap number (sym (four-there h ∙ (λ i. sym p i ∷ sym q i ∷ sym r i ∷ sym s i ∷ [])))
+      let t : take 4 (drop at l) ≡ a ∷ b ∷ c ∷ d ∷ [] = four-there h ∙ (λ i. sym p i ∷ sym q i ∷ sym r i ∷ sym s i ∷ []) in
+      let f : all-bytes (a ∷ b ∷ c ∷ d ∷ []) ≡ true = λ i. lt-ltb a 256 k i && (lt-ltb b 256 m i && (lt-ltb c 256 n i && (lt-ltb d 256 o i && true))) in
+      (z ∙ ap number (sym t), ap (bytes 4) z ∙ bytes-number (a ∷ b ∷ c ∷ d ∷ []) f ∙ sym t)
 
   pub pair-put : (x : ℕ) → set (set l at (x % 256)) (at + 1) (x / 256 % 256) ≡ sets l at (bytes 2 x)
   pair-put x = let p : at + 1 ≡ suc at = omega arith in ap (λ (k : ℕ). set (set l at (x % 256)) k (x / 256 % 256)) p

@@ -34,7 +34,7 @@ fn pair_at(block: &[u8], at: usize) -> u32
 // The four-byte number from place at on.
 pub fn number_at(block: &[u8], at: usize) -> u32
     requires { ⌜ at + 4 ≤ length (now block) ⌝ }
-    ensures { λ r. ⌜ r ≡ number-in (take 4 (drop at (now (block .entry)))) ⌝ }
+    ensures { λ r. ⌜ (r ≡ number-in (take 4 (drop at (now (block .entry))))) × (bytes 4 r ≡ take 4 (drop at (now (block .entry)))) ⌝ }
 {
     let a = wide(block[at]);
     let b = wide(block[at + 1]);

@@ -62,7 +62,7 @@ returns c =
     let y = c .before .before .before .before .wide2 in
     let z = c .before .before .wide3 in
     let w = c .wide4 in
-    four-read (s .args .block .now) (s .args .at) (s .pre) (x .result) (y .result) (z .result) (w .result) (x .ensures .0) (y .ensures .0) (z .ensures .0) (w .ensures .0)
+    four-read (s .args .block .now) (s .args .at) (s .pre) (x .result) (y .result) (z .result) (w .result) (x .ensures .0) (y .ensures .0) (z .ensures .0) (w .ensures .0) (x .ensures .1) (y .ensures .1) (z .ensures .1) (w .ensures .1)
 
 pub number-at-spec : {M : Type 1} → statement M
 number-at-spec =
