@@ -24,6 +24,9 @@ pub record Words : Type 0 where
   pub imprints : List ℕ
   pub dictionary : List ℕ
 
+abbrev pub index-words : List ℤ → List ℕ → List ℕ → Words
+index-words bs is ds = record { borders = bs; imprints = is; dictionary = ds }
+
 -- the payload: the row count, the number of borders, imprints and dictionary words, each in 4 bytes, then these
 abbrev pub header : ℕ → Words → List ℕ
 header rows w = spelt 4 (rows ∷ length (w .borders) ∷ length (w .imprints) ∷ length (w .dictionary) ∷ [])
