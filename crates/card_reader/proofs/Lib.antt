@@ -1,3 +1,5 @@
 pub mod OverLaws
 pub mod RelaidLaws
 pub mod PromiseLaws
+pub mod TakenLaws
+pub mod RefusalLaws
