@@ -3,3 +3,4 @@ pub mod RelaidLaws
 pub mod PromiseLaws
 pub mod TakenLaws
 pub mod RefusalLaws
+pub mod LaidLaws
