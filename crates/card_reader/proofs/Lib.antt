@@ -4,3 +4,4 @@ pub mod PromiseLaws
 pub mod TakenLaws
 pub mod RefusalLaws
 pub mod LaidLaws
+pub mod ReadingLaws
