@@ -5,3 +5,5 @@ pub mod TakenLaws
 pub mod RefusalLaws
 pub mod LaidLaws
 pub mod ReadingLaws
+pub mod HeldLaws
+pub mod BackLaws

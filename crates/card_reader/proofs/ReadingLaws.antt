@@ -165,3 +165,7 @@ one-image e some {bs} {w} {v} {t} are r =
     let F : List ℕ = payload e (t .rows) (told t v) in
     let c : ceil (length F) 496 ≡ i .count = ceil-is (length F) 496 (i .count) (omega arith) (omega (arith, i .reach)) (omega (arith, i .below)) in
     (i .blocks-are ∙ ap (λ (n : ℕ). map (λ (j : ℕ). block (e .edition) j (part j F)) (from 0 n)) (sym c), i .fine)
+
+-- two lists of blocks that are read as the same are the same
+pub same-image : (e : Edition) → 0 < e .width → {bs cs : List (List ℕ)} {w v w′ v′ : Words} {t t′ : Reader} → ((b : List ℕ) → List·Memᴰ b bs → all-bytes b ≡ true) → ((c : List ℕ) → List·Memᴰ c cs → all-bytes c ≡ true) → Reads e fresh w bs t v → Reads e fresh w′ cs t′ v′ → t .rows ≡ t′ .rows → told t v ≡ told t′ v′ → bs ≡ cs
+same-image e some f g r q p o = one-image e some f r .0 ∙ ap₂ (blocks e) p o ∙ sym (one-image e some g q .0)
