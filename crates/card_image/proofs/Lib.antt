@@ -1,1 +1,3 @@
 pub mod PromiseLaws
+pub mod ImageLaws
+pub mod FineLaws

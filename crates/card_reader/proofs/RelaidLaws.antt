@@ -87,7 +87,7 @@ module _ {A : Type 0} (to : A → ℕ) (of : ℕ → A) (k : ℕ) where
 
   module _ (some : 0 < k) (back : (x : ℕ) → x < 256 ^ k → to (of x) ≡ x) where
     -- the number of a word that was reached, and its bytes
-    laid-number : (at : ℕ) (p : List ℕ) (q x : ℕ) → all-bytes p ≡ true → number (overlaid at p q (bytes k x)) < 256 ^ k
+    pub laid-number : (at : ℕ) (p : List ℕ) (q x : ℕ) → all-bytes p ≡ true → number (overlaid at p q (bytes k x)) < 256 ^ k
     laid-number at p q x h =
         subst (λ (n : ℕ). number (overlaid at p q (bytes k x)) < 256 ^ n) (length-overlaid at p q (bytes k x) ∙ length-bytes k x) (number-below (overlaid at p q (bytes k x)) (overlaid-bytes at p q (bytes k x) h (bytes-are k x)))
 
