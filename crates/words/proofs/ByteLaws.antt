@@ -5,8 +5,8 @@ use mathlib.Core.List.{List, [], _∷_, _++_, map, append-assoc, append-nil}
 use mathlib.Core.Bool.{Bool, true, false, cond, _&&_, false≢true}
 use lib.Dec.{eqb, ltb}
 use lib.IntN.{ℤ, pos, negsuc}
-use lib.ListN.{length, take, drop, length-append, length-drop, take-append-drop}
-use lib.Seq.{take-at, drop-at, take-add, length-take-le}
+use lib.ListN.{length, getD, take, drop, length-append, length-drop, take-append-drop}
+use lib.Seq.{take-at, drop-at, take-add, length-take-le, drop-append-le, take-append-le, drop-append-add}
 use native.Mathlib.Nat.{pow-suc, pow-succ', div-lt-iff-lt-mul, mul-suc, mul-zero, mul-comm, zero-add, suc-add, div-one, div-div-eq-div-mul, mul-assoc, mod-eq-of-lt, add-mul-mod-self-left}
 use native.Mathlib.Omega.{arith}
 use borrow.Author.Tests.{ltb-true, lt-ltb, ltb-false, le-ltb}
@@ -139,6 +139,21 @@ spelt-numbers k (suc n) bs h l =
 pub length-numbers : (k n : ℕ) (bs : List ℕ) → length (numbers k n bs) ≡ n
 length-numbers k zero bs = refl
 length-numbers k (suc n) bs = ap suc (length-numbers k n (drop k bs))
+
+-- m bytes of number j, from its byte o on
+pub spelt-at : (k m o : ℕ) (xs rest : List ℕ) (j : ℕ) → o + m ≤ k → j < length xs → take m (drop (k * j + o) (spelt k xs ++ rest)) ≡ take m (drop o (bytes k (getD xs j 0)))
+spelt-at k m o [] rest j h l = absurd (omega (arith, l))
+spelt-at k m o (x ∷ xs) rest zero h l =
+    let b = length-bytes k x in
+    let z : k * 0 + o ≡ o = omega (arith, mul-zero k) in
+    ap₂ (λ (n : ℕ) (r : List ℕ). take m (drop n r)) z (append-assoc (bytes k x) (spelt k xs) rest)
+    ∙ ap (take m) (drop-append-le o (bytes k x) (spelt k xs ++ rest) (omega (arith, b)))
+    ∙ take-append-le m (drop o (bytes k x)) (spelt k xs ++ rest) (omega (arith, b, length-drop o (bytes k x)))
+spelt-at k m o (x ∷ xs) rest (suc j) h l =
+    let z : k * suc j + o ≡ length (bytes k x) + (k * j + o) = omega (arith, mul-suc k j, length-bytes k x) in
+    ap₂ (λ (n : ℕ) (r : List ℕ). take m (drop n r)) z (append-assoc (bytes k x) (spelt k xs) rest)
+    ∙ ap (take m) (drop-append-add (bytes k x) (spelt k xs ++ rest) (k * j + o))
+    ∙ spelt-at k m o xs rest j h (omega (arith, l))
 
 -- ---- signed values
 

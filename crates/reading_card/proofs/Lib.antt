@@ -1,0 +1,4 @@
+pub mod LaysLaws
+pub mod ToldLaws
+pub mod TurnLaws
+pub mod WriteLaws
