@@ -2,6 +2,7 @@
 //! of every lent space (of the read ones too), and the guard words on both sides of each. The answer handed back is the plain one.
 use crate::face::*;
 use crate::plain::{self, Entry, Filter, Found, Index, No, Outcome, Position, Told};
+use crate::plain_card::{self, Fed, State};
 use std::cell::RefCell;
 use std::fmt::Debug;
 
@@ -23,6 +24,12 @@ pub trait Word: Copy + PartialEq + Debug {
 
 fn mixed(place: usize) -> u64 {
     (place as u64 + 1).wrapping_mul(0x9E37_79B9_7F4A_7C15)
+}
+
+impl Word for u8 {
+    fn stale(place: usize) -> u8 {
+        (mixed(place) >> 32) as u8
+    }
 }
 
 impl Word for i32 {
@@ -498,5 +505,72 @@ pub fn register(minutes: &[i32], space: usize) -> Result<Vec<Entry>, No> {
     out.same(call, "out", &[needed(&answer), entries.len() as u64, row]);
     let front: Vec<u32> = entries.into_iter().flat_map(Entry::words).collect();
     words.front(call, "words", &front);
+    answer
+}
+
+pub fn card_write(rows: u64, index: &Index, space: usize) -> Result<Vec<u8>, No> {
+    let answer = plain_card::write(rows, index, space);
+    let parts = Parts::of(index);
+    let mut card = Space::<u8>::stale(space);
+    let mut out = Space::<u64>::stale(2);
+    let got = unsafe {
+        mgz_card_write(
+            rows,
+            parts.borders.ptr(),
+            parts.borders.len(),
+            parts.imprints.ptr(),
+            parts.imprints.len(),
+            parts.dictionary.ptr(),
+            parts.dictionary.len(),
+            card.mut_ptr(),
+            card.len(),
+            out.mut_ptr(),
+        )
+    };
+    let call = "mgz_card_write";
+    number(call, got, &answer);
+    parts.same(call, index);
+    let image = answer.as_deref().unwrap_or(&[]);
+    out.same(call, "out", &[needed(&answer), image.len() as u64]);
+    card.front(call, "card", image);
+    answer
+}
+
+/// Leaves in the spaces what the library left there.
+pub fn card_feed(block: &[u8], state: State, spaces: &mut Index) -> Result<Fed, No> {
+    let answer = plain_card::feed(block, state, spaces);
+    let lent = Space::of(block);
+    let mut parts = Parts::of(spaces);
+    let mut out = Space::<u64>::stale(8);
+    let got = unsafe {
+        mgz_card_feed(
+            lent.ptr(),
+            lent.len(),
+            state.due,
+            state.rows,
+            state.borders,
+            state.imprints,
+            state.dictionary,
+            parts.borders.mut_ptr(),
+            parts.borders.len(),
+            parts.imprints.mut_ptr(),
+            parts.imprints.len(),
+            parts.dictionary.mut_ptr(),
+            parts.dictionary.len(),
+            out.mut_ptr(),
+        )
+    };
+    let call = "mgz_card_feed";
+    number(call, got, &answer);
+    lent.same(call, "block", block);
+    let due = answer.as_ref().err().map_or(0, |no| no.block);
+    let (ended, after) = answer.as_ref().map_or((false, State::default()), |fed| (fed.ended, fed.state));
+    out.same(call, "out", &[&[needed(&answer), due, ended as u64], after.words().as_slice()].concat());
+    parts.same(call, answer.as_ref().map_or(&*spaces, |fed| &fed.spaces));
+    *spaces = Index {
+        borders: parts.borders.words().to_vec(),
+        imprints: parts.imprints.words().to_vec(),
+        dictionary: parts.dictionary.words().to_vec(),
+    };
     answer
 }

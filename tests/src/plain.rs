@@ -7,17 +7,19 @@ pub const LINES_AT_MOST: u64 = 1_048_576;
 pub const ROWS_PER_LINE: usize = 16;
 pub const ROOM_AT_MOST: u32 = 4_095;
 
-/// Any answer but 0: its number, the length needed where the number is 4 (else 0), and the row where it is 13 (else 0).
+/// Any answer but 0: its number, the length needed where the number is 4 (else 0), the row where it is 13 (else 0), and the block due where
+/// it is 14 or 15 (else 0).
 #[derive(Clone, Copy, Debug, PartialEq, Eq)]
 pub struct No {
     pub number: u32,
     pub needed: u64,
     pub row: u64,
+    pub block: u64,
 }
 
 impl No {
     pub fn of(number: u32) -> No {
-        No { number, needed: 0, row: 0 }
+        No { number, needed: 0, row: 0, block: 0 }
     }
 
     pub fn short(needed: usize) -> No {
@@ -26,6 +28,11 @@ impl No {
 
     pub fn negative(row: usize) -> No {
         No { row: row as u64, ..No::of(13) }
+    }
+
+    /// 14 or 15, with the block due.
+    pub fn at(number: u32, block: u64) -> No {
+        No { block, ..No::of(number) }
     }
 }
 

@@ -99,4 +99,32 @@ extern "C" {
         out: *mut [u64; 6],
     ) -> u32;
     pub fn mgz_register(minutes: *const i32, minutes_length: usize, words: *mut u32, words_length: usize, out: *mut [u64; 3]) -> u32;
+    pub fn mgz_card_write(
+        rows: u64,
+        borders: *const i32,
+        borders_length: usize,
+        imprints: *const u64,
+        imprints_length: usize,
+        dictionary: *const u32,
+        dictionary_length: usize,
+        card: *mut u8,
+        card_length: usize,
+        out: *mut [u64; 2],
+    ) -> u32;
+    pub fn mgz_card_feed(
+        block: *const u8,
+        block_length: usize,
+        due: u64,
+        rows: u64,
+        borders_count: u64,
+        imprints_count: u64,
+        dictionary_count: u64,
+        borders: *mut i32,
+        borders_length: usize,
+        imprints: *mut u64,
+        imprints_length: usize,
+        dictionary: *mut u32,
+        dictionary_length: usize,
+        out: *mut [u64; 8],
+    ) -> u32;
 }

@@ -5,7 +5,11 @@
 #[allow(dead_code)]
 #[path = "../../src/plain.rs"]
 mod plain;
+#[allow(dead_code)]
+#[path = "../../src/plain_card.rs"]
+mod plain_card;
 use plain::{Entry, Filter, Found, Index, No, Outcome, Position, Told};
+use plain_card::{Fed, State, BLOCK, CHECKED, EDITION, PAYLOAD};
 use std::collections::HashMap;
 use std::slice::{from_raw_parts, from_raw_parts_mut};
 use std::sync::OnceLock;
@@ -640,5 +644,207 @@ pub unsafe extern "C" fn mgz_register(minutes: *const i32, n: usize, words: *mut
         words[4 * entries.len()..].fill(0);
     }
     put(words, &entries.into_iter().flat_map(Entry::words).collect::<Vec<u32>>());
+    number(&answer)
+}
+
+/// The check of a block, by wrong sums where a fault in them is planted.
+fn card_check(block: &[u8]) -> [u8; 4] {
+    let over = if fault("card-sums-over-the-whole-block") { BLOCK } else { CHECKED };
+    let sum = |sum: u32, x: u32| {
+        let sum = sum + x;
+        if fault("card-sums-modulo-65536") {
+            sum % 65_536
+        } else if fault("card-sums-leave-65535") {
+            sum % 65_536 + sum / 65_536
+        } else {
+            sum % 65_535
+        }
+    };
+    let checked = [&block[..CHECKED], &[0; BLOCK - CHECKED]].concat();
+    let (mut a, mut b) = (0, 0);
+    for pair in checked[..over].chunks(2) {
+        a = sum(a, u16::from_le_bytes([pair[0], pair[1]]) as u32);
+        b = sum(b, a);
+    }
+    (a + 65_536 * b).to_le_bytes()
+}
+
+fn card_written(rows: u64, index: &Index, space: usize) -> Result<Vec<u8>, No> {
+    let mut image = plain_card::image(rows, index);
+    if fault("card-empty-block-behind-a-full-one") && plain_card::payload(rows, index).len() % PAYLOAD == 0 {
+        image.extend(plain_card::block((image.len() / BLOCK) as u32, &[]));
+    }
+    for block in image.chunks_mut(BLOCK) {
+        let check = card_check(block);
+        block[CHECKED..].copy_from_slice(&check);
+    }
+    let refusal = plain_card::is_index(rows, index).err();
+    let needed = if fault("card-needs-blocks") { image.len() / BLOCK } else { image.len() };
+    let short = (space < image.len()).then(|| No::short(needed));
+    let unfit = matches!(refusal, Some(No { number: 3, .. }));
+    let refusal = if fault("card-4-before-3") && unfit { short.or(refusal) } else { refusal.or(short) };
+    refusal.map_or(Ok(image), Err)
+}
+
+#[no_mangle]
+pub unsafe extern "C" fn mgz_card_write(
+    rows: u64,
+    borders: *const i32,
+    b: usize,
+    imprints: *const u64,
+    i: usize,
+    dictionary: *const u32,
+    d: usize,
+    card: *mut u8,
+    c: usize,
+    out: *mut u64,
+) -> u32 {
+    let (borders, imprints, dictionary) = unsafe { (read(borders, b), read(imprints, i), read(dictionary, d)) };
+    let (card, out) = unsafe { (lent(card, c), lent(out, 2)) };
+    let index = Index { borders: borders.to_vec(), imprints: imprints.to_vec(), dictionary: dictionary.to_vec() };
+    let answer = card_written(rows, &index, c);
+    if fault("card-blocks-that-fit-written-before-4") && number(&answer) == 4 {
+        put(card, &plain_card::image(rows, &index)[..c / BLOCK * BLOCK]);
+    }
+    let image = answer.clone().unwrap_or_default();
+    out.copy_from_slice(&[needed(&answer), image.len() as u64]);
+    put(card, &image);
+    number(&answer)
+}
+
+fn card_two(block: &[u8], at: usize) -> usize {
+    u16::from_le_bytes([block[at], block[at + 1]]) as usize
+}
+
+fn card_four(block: &[u8], at: usize) -> u32 {
+    u32::from_le_bytes(block[at..at + 4].try_into().unwrap())
+}
+
+fn card_sound(block: &[u8]) -> bool {
+    if block.len() != BLOCK {
+        return false;
+    }
+    let (right, told) = (card_check(block), &block[CHECKED..]);
+    if fault("card-check-by-its-remainder") {
+        return [0, 2].iter().all(|&at| card_two(&right, at) % 65_535 == card_two(told, at) % 65_535);
+    }
+    right == told
+}
+
+fn card_in_place(block: &[u8], state: &State) -> bool {
+    let total = if fault("card-total-in-32-bits") { state.total() as u32 as u128 } else { state.total() };
+    let left = total.saturating_sub(state.before()).min(PAYLOAD as u128) as usize;
+    let length = card_two(block, 8);
+    let due = card_four(block, 0) as u64;
+    let by_its_low_half = fault("card-due-by-its-low-half") && due == state.due as u32 as u64;
+    let named = due == state.due || by_its_low_half || fault("card-number-not-looked-at");
+    let measured = if fault("card-last-by-its-own-length") { length <= left } else { length == left };
+    let zeros = card_two(block, 10) == 0 || fault("card-zero-bytes-not-looked-at");
+    let filled = fault("card-filler-not-looked-at") || block[12..CHECKED].iter().skip(length).all(|&byte| byte == 0);
+    let not_past = left != 0 || fault("card-extra-block-taken");
+    named && measured && zeros && filled && not_past
+}
+
+fn card_short(state: &State, spaces: &Index) -> Option<No> {
+    if fault("card-4-by-the-last-space") && (spaces.dictionary.len() as u64) < state.dictionary {
+        return Some(No::short(state.dictionary as usize));
+    }
+    plain_card::short(state, spaces)
+}
+
+/// An imprint of which the block has the first half loses the other one.
+fn card_half_cleared(state: &State, words: &mut Index, length: usize) {
+    let to = (state.before() as usize + length).saturating_sub(16 + 4 * words.borders.len());
+    if to % 8 == 4 && to / 8 < words.imprints.len() {
+        words.imprints[to / 8] &= 0xFFFF_FFFF;
+    }
+}
+
+/// The answer, and what stands in the spaces where that is not what the answer says.
+fn card_fed(block: &[u8], state: State, spaces: &Index) -> (Result<Fed, No>, Option<Index>) {
+    let bad = |number| (Err(No::at(number, state.due)), None);
+    let other_edition = block.len() == BLOCK && card_four(block, 4) != EDITION;
+    if fault("card-14-before-the-check") && other_edition {
+        return bad(14);
+    }
+    if !card_sound(block) {
+        return bad(15);
+    }
+    if other_edition {
+        return bad(14);
+    }
+    let told = if state.due == 0 { State::header(block) } else { state };
+    let after = State { due: told.due.wrapping_add(1), ..told };
+    if !card_in_place(block, &told) {
+        return bad(15);
+    }
+    if fault("card-2-at-the-header") && plain::ROWS_AT_MOST as u64 <= told.rows.saturating_sub(1) {
+        return (Err(No::of(2)), None);
+    }
+    if let Some(no) = card_short(&told, spaces) {
+        return (Err(no), None);
+    }
+    if told.total() <= told.before() {
+        return (Ok(Fed { ended: true, state: after, spaces: spaces.clone() }), None);
+    }
+    let length = card_two(block, 8);
+    let mut words = plain_card::laid(&told, &plain_card::told(&told, spaces), &block[12..12 + length]);
+    if fault("card-other-half-cleared") {
+        card_half_cleared(&told, &mut words, length);
+    }
+    let mut ended = told.total() <= told.before() + PAYLOAD as u128;
+    if fault("card-last-by-its-own-length") {
+        ended |= length < PAYLOAD;
+    }
+    let spaces_after = plain_card::put_back(&words, spaces);
+    if let (true, Err(no)) = (ended, plain_card::is_index(told.rows, &words)) {
+        let block = if fault("card-block-beside-3") { state.due } else { 0 };
+        return (Err(No { block, ..no }), fault("card-words-before-3").then_some(spaces_after));
+    }
+    if fault("card-full-block-never-last") && length == PAYLOAD {
+        ended = false;
+    }
+    (Ok(Fed { ended, state: after, spaces: spaces_after }), None)
+}
+
+#[no_mangle]
+pub unsafe extern "C" fn mgz_card_feed(
+    block: *const u8,
+    n: usize,
+    due: u64,
+    rows: u64,
+    borders_count: u64,
+    imprints_count: u64,
+    dictionary_count: u64,
+    borders: *mut i32,
+    b: usize,
+    imprints: *mut u64,
+    i: usize,
+    dictionary: *mut u32,
+    d: usize,
+    out: *mut u64,
+) -> u32 {
+    let (block, out) = unsafe { (read(block, n), lent(out, 8)) };
+    let (borders, imprints, dictionary) = unsafe { (lent(borders, b), lent(imprints, i), lent(dictionary, d)) };
+    let spaces = Index { borders: borders.to_vec(), imprints: imprints.to_vec(), dictionary: dictionary.to_vec() };
+    let state = State { due, rows, borders: borders_count, imprints: imprints_count, dictionary: dictionary_count };
+    let (answer, written) = card_fed(block, state, &spaces);
+    out.fill(0);
+    match &answer {
+        Ok(fed) => {
+            out[2] = fed.ended as u64;
+            out[3..].copy_from_slice(&fed.state.words());
+        }
+        Err(no) => {
+            out[..2].copy_from_slice(&[no.needed, no.block]);
+            if fault("card-state-at-a-refusal") {
+                out[3..].copy_from_slice(&state.words());
+            }
+        }
+    }
+    let after = written.or(answer.as_ref().ok().map(|fed| fed.spaces.clone())).unwrap_or(spaces);
+    put(borders, &after.borders);
+    put(imprints, &after.imprints);
+    put(dictionary, &after.dictionary);
     number(&answer)
 }
