@@ -1,5 +1,6 @@
 /* Column A of document 01 (32 rows of 5, then 8 rows of 20), its index, its rows with the value 20, and an empty stretch asked for twice;
- * then 60 more rows of 20 come, and the index grows where it stands. Last, the register of a night whose clock goes back to 02:00. */
+ * then 60 more rows of 20 come, and the index grows where it stands. It goes to a card and is read from it, block by block, first with a bit
+ * flipped. Last, the register of a night whose clock goes back to 02:00. */
 #include "miguzoryane.h"
 
 #include <stdio.h>
@@ -24,6 +25,36 @@ static int hours_of_the_night(void) {
         printf("hour %u repeat %u first row %u rows %u\n", (unsigned)entry[MGZ_REGISTER_HOUR], (unsigned)entry[MGZ_REGISTER_REPEAT],
                (unsigned)entry[MGZ_REGISTER_FIRST_ROW], (unsigned)entry[MGZ_REGISTER_ROWS]);
     }
+    return 0;
+}
+
+static int feed(const uint8_t *block, struct mgz_card_fed *state) {
+    int32_t borders[MGZ_BORDERS_AT_MOST];
+    uint64_t imprints[MORE_LINES];
+    uint32_t dictionary[MORE_LINES];
+    struct mgz_card_fed fed;
+    uint32_t number = mgz_card_feed(block, MGZ_CARD_BLOCK, state->due, state->rows, state->borders, state->imprints, state->dictionary, borders,
+                                    MGZ_BORDERS_AT_MOST, imprints, MORE_LINES, dictionary, MORE_LINES, &fed);
+    if (number == MGZ_BAD_BLOCK) printf("block %u is bad\n", (unsigned)fed.block);
+    if (number == MGZ_DONE) *state = fed;
+    return number != MGZ_DONE;
+}
+
+static int card_and_back(const int32_t *borders, size_t borders_length, const uint64_t *imprints, size_t imprints_length,
+                         const uint32_t *dictionary, size_t dictionary_length) {
+    uint8_t card[MGZ_CARD_BYTES(2, MORE_LINES, MORE_LINES)];
+    struct mgz_card_written written;
+    uint32_t number = mgz_card_write(MORE_ROWS, borders, borders_length, imprints, imprints_length, dictionary, dictionary_length, card,
+                                     sizeof card, &written);
+    if (refused(number)) return 1;
+    printf("%u bytes on the card\n", (unsigned)written.bytes);
+    struct mgz_card_fed state = {0};
+    card[30] ^= 1;
+    if (!feed(card, &state)) return 1;
+    card[30] ^= 1;
+    if (feed(card, &state) || !state.ended) return 1;
+    printf("read back: rows %u borders %u imprints %u dictionary %u\n", (unsigned)state.rows, (unsigned)state.borders,
+           (unsigned)state.imprints, (unsigned)state.dictionary);
     return 0;
 }
 
@@ -68,5 +99,6 @@ int main(void) {
     if (refused(number)) return 1;
     printf("rows %d lines %d imprints %u dictionary %u\n", MORE_ROWS, MORE_LINES, (unsigned)grown.imprints, (unsigned)grown.dictionary);
     printf("20: %u rows, the last is %u\n", (unsigned)found.rows, (unsigned)ids[found.rows - 1]);
+    if (card_and_back(borders, built.borders, imprints, grown.imprints, dictionary, grown.dictionary)) return 1;
     return hours_of_the_night();
 }

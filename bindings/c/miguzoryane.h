@@ -2,8 +2,8 @@
  *
  * Every call answers a number (mgz_number below; 0 is done). An answer but 0 changes no lent space. Every call writes its
  * `out` words, always all of them: at any number but MGZ_DONE they are 0, but for `needed`, which MGZ_SPACE_SHORT fills with the length
- * the first short space would need, and `row`, which MGZ_NEGATIVE_MINUTE fills; at MGZ_DONE both are 0. MGZ_DONE changes only the words
- * that the answer fills.
+ * the first short space would need, `row`, which MGZ_NEGATIVE_MINUTE fills, and `block`, which MGZ_OTHER_EDITION and MGZ_BAD_BLOCK fill; at
+ * MGZ_DONE these three are 0. MGZ_DONE changes only the words that the answer fills.
  *
  * A space is a pointer and a number of elements. The caller keeps every space; the library allocates nothing, keeps no
  * pointer after a call, has no global state, and returns from every call.
@@ -36,6 +36,8 @@ enum mgz_number {
     MGZ_NOTHING_TO_FORGET = 10, /* the tree is a single leaf */
     MGZ_ROOM_TOO_LARGE = 11,    /* room above MGZ_ROOM_AT_MOST, or above 2^levels - 1, which is all that a tree of so many levels can use */
     MGZ_NEGATIVE_MINUTE = 13,   /* a minute is negative, or a fault; `row` is the first such row */
+    MGZ_OTHER_EDITION = 14,     /* a block of the card is of another edition than MGZ_CARD_EDITION; `block` is the block due */
+    MGZ_BAD_BLOCK = 15,         /* a damaged, missing, extra or misplaced block of the card; `block` is the block due */
     MGZ_COVERED_ABOVE_ROWS = 17 /* the index is said to cover more rows than the column has */
 };
 
@@ -136,6 +138,37 @@ struct mgz_registered {
     uint64_t row;
 };
 
+/* An index on the card is an image of whole blocks: number from 0 (4 bytes), edition (4), payload length (2), two zero bytes, payload
+ * filled up with zeros, check (4), low byte first throughout. The check is two sums over the bytes before it, as two-byte numbers x:
+ * a = a + x and b = b + a, both from 0 and modulo 65535. All blocks but the last are full. Together the payloads are the row count, the
+ * numbers of borders, imprints and dictionary words (4 bytes each), and these: imprints in 8 bytes, the others in 4. */
+#define MGZ_CARD_BLOCK 512
+#define MGZ_CARD_PAYLOAD 496
+#define MGZ_CARD_EDITION 1
+
+/* Bytes of the image of an index of so many borders, imprints and dictionary words. */
+#define MGZ_CARD_BYTES(borders, imprints, dictionary) \
+    ((15 + 4 * (borders) + 8 * (imprints) + 4 * (dictionary)) / MGZ_CARD_PAYLOAD * MGZ_CARD_BLOCK + MGZ_CARD_BLOCK)
+
+/* How many bytes of the card the image fills. */
+struct mgz_card_written {
+    uint64_t needed;
+    uint64_t bytes;
+};
+
+/* A block that was taken. The last five words are the reader's state after it, to be handed in with the next block: the block due then,
+ * and the header's counts. `ended` is 1 at the last block. */
+struct mgz_card_fed {
+    uint64_t needed;
+    uint64_t block;
+    uint64_t ended;
+    uint64_t due;
+    uint64_t rows;
+    uint64_t borders;
+    uint64_t imprints;
+    uint64_t dictionary;
+};
+
 /* Builds the index of a column: its borders, the imprints kept and the dictionary, at the front of the three spaces. An index is handed to the
  * other calls as exactly its words, so with the lengths `out` gives. Numbers, in the order they are checked: 2, 4. */
 uint32_t mgz_build(const int32_t *column, size_t column_length, int32_t *borders, size_t borders_length, uint64_t *imprints,
@@ -212,6 +245,25 @@ uint32_t mgz_guarded_search(uint32_t *words, size_t words_length, const int32_t 
  * Lengths are in words: `needed` is MGZ_REGISTER_WORDS for each entry, and as many for each row are always enough.
  * Numbers: 2, 13, 4. */
 uint32_t mgz_register(const int32_t *minutes, size_t minutes_length, uint32_t *words, size_t words_length, struct mgz_registered *out);
+
+/* Writes an index of so many rows as an image at the front of `card`; bytes behind it stay as they were. One index has one image. Lengths
+ * are in bytes; MGZ_CARD_BYTES of the index's lengths is just enough. Numbers: 2, 5, 3, 4. */
+uint32_t mgz_card_write(uint64_t rows, const int32_t *borders, size_t borders_length, const uint64_t *imprints, size_t imprints_length,
+                        const uint32_t *dictionary, size_t dictionary_length, uint8_t *card, size_t card_length,
+                        struct mgz_card_written *out);
+
+/* Feeds one block of an image to a reader. `due`, `rows` and the three counts are the reader's state: all 0 at first, then the last five
+ * words of the `out` before. While block 0 is due the counts don't matter. A refused block changes nothing, so the reader goes on from the
+ * same state: with the same block read once more from the card, or with longer spaces. At `ended` the index stands at the fronts of the
+ * three spaces, and is what the writer was given; until then a part of it does. Words behind the counts are never changed.
+ * In each block are tested its size and its check (15), its edition (14), all else (15): its number, its payload length, the zeros, that
+ * it is not past the last; then the spaces, in each block too (4); and at the last one, whether the words are an index (2, 5, 3). A block
+ * of length 0 says that there is no more: 15, with the block due. Any state may be handed in.
+ * The header's counts are whatever stands there. An index has at most MGZ_BORDERS_AT_MOST borders, MGZ_LINES_AT_MOST imprints and as many
+ * dictionary words, so nobody has to follow a `needed` beyond that. Numbers: 15, 14, 15, 4, 2, 5, 3. */
+uint32_t mgz_card_feed(const uint8_t *block, size_t block_length, uint64_t due, uint64_t rows, uint64_t borders_count,
+                       uint64_t imprints_count, uint64_t dictionary_count, int32_t *borders, size_t borders_length, uint64_t *imprints,
+                       size_t imprints_length, uint32_t *dictionary, size_t dictionary_length, struct mgz_card_fed *out);
 
 #ifdef __cplusplus
 }

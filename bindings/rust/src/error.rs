@@ -34,6 +34,16 @@ pub enum Error {
         /// The first such row.
         row: usize,
     },
+    /// 14: a block of the card is of another edition.
+    OtherEdition {
+        /// The block due.
+        block: usize,
+    },
+    /// 15: a damaged, missing, extra or misplaced block of the card.
+    BadBlock {
+        /// The block due.
+        block: usize,
+    },
     /// 17: the index is said to cover more rows than the column has.
     CoveredAboveRows,
 }
@@ -58,11 +68,14 @@ impl Error {
             Error::NothingToForget => 10,
             Error::RoomTooLarge => 11,
             Error::NegativeMinute { .. } => 13,
+            Error::OtherEdition { .. } => 14,
+            Error::BadBlock { .. } => 15,
             Error::CoveredAboveRows => 17,
         }
     }
 
-    /// The answer of a call: nothing for 0, else what the number stands for. Beside 4 stands the length needed, beside 13 the row.
+    /// The answer of a call: nothing for 0, else what the number stands for. Beside 4 stands the length needed, beside 13 the row,
+    /// beside 14 and 15 the block due.
     pub(crate) fn check(number: u32, beside: u64) -> Result<(), Error> {
         Err(match number {
             0 => return Ok(()),
@@ -78,6 +91,8 @@ impl Error {
             10 => Error::NothingToForget,
             11 => Error::RoomTooLarge,
             13 => Error::NegativeMinute { row: beside as usize },
+            14 => Error::OtherEdition { block: beside as usize },
+            15 => Error::BadBlock { block: beside as usize },
             17 => Error::CoveredAboveRows,
             other => unreachable!("no call answers {other}"),
         })
@@ -101,6 +116,8 @@ impl fmt::Display for Error {
                 write!(f, "the room is above 4,095, or above 2^levels - 1, which is all that a tree of so many levels can use")
             }
             Error::NegativeMinute { row } => write!(f, "the minute in row {row} is negative"),
+            Error::OtherEdition { block } => write!(f, "the card's block {block} is of another edition"),
+            Error::BadBlock { block } => write!(f, "the card's block {block} is damaged, missing, extra or out of place"),
             Error::CoveredAboveRows => write!(f, "the index covers more rows than the column has"),
         }
     }

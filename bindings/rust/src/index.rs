@@ -48,6 +48,11 @@ pub struct IndexBuf {
 }
 
 impl IndexBuf {
+    /// These words, which were found to be an index of so many rows.
+    pub(crate) fn of(covered: usize, borders: Vec<i32>, imprints: Vec<u64>, dictionary: Vec<u32>) -> IndexBuf {
+        IndexBuf { covered, borders, imprints, dictionary }
+    }
+
     /// Builds the index of a column.
     pub fn build(column: &[i32]) -> Result<IndexBuf, Error> {
         if ROWS_AT_MOST < column.len() {
@@ -100,7 +105,8 @@ impl IndexBuf {
         Ok(())
     }
 
-    /// How many rows it covers: as many as the column had that it was built from, or last extended to.
+    /// How many rows it covers: as many as the column had that it was built from, or last extended to; of an index from a
+    /// [card](crate::card), the row count that stands there.
     pub fn covered(&self) -> usize {
         self.covered
     }

@@ -3,10 +3,10 @@
 //! Two parts and one above them: **column imprints** ([`build`], [`append`], [`search`]: an index that says of every 16 rows which bins
 //! their values lie in, and grows as samples keep coming), an **adaptive range filter** ([`Filter`]: a memory of ranges known to be empty),
 //! and the **search with both** ([`guarded_search`]). Beside them, the **hour register** of a time column ([`register`]): one entry per
-//! discharge hour, through the clock change.
+//! discharge hour, through the clock change. An index goes to the inspector on a [`card`].
 //!
-//! The calls take slices and write into the caller's own spaces; [`IndexBuf`], [`Filter::fresh`] and [`RegisterBuf`] allocate them where
-//! that is handier.
+//! The calls take slices and write into the caller's own spaces; [`IndexBuf`], [`Filter::fresh`], [`RegisterBuf`] and
+//! [`card::CardReader`] allocate them where that is handier.
 //! Whatever is refused, with an [`Error`], has changed nothing. Damaged words are no danger: an index or a filter that isn't one is refused.
 //!
 //! ```
@@ -20,6 +20,7 @@
 //! # Ok::<(), miguzoryane::Error>(())
 //! ```
 #![warn(missing_docs)]
+pub mod card;
 mod error;
 mod face;
 mod filter;

@@ -163,6 +163,95 @@ fn of_a_registers_entries() {
 }
 
 #[test]
+fn of_a_card() {
+    let mut space = [77; 600];
+    let equal = Index { borders: &[5, 5], dictionary: &[3], ..A };
+    assert_eq!(card::write(ROWS_AT_MOST + 1, equal, &mut []), Err(Error::ColumnTooLong));
+    assert_eq!(card::write(usize::MAX, equal, &mut []), Err(Error::ColumnTooLong));
+    assert_eq!(card::write(40, equal, &mut []), Err(Error::BadBorders));
+    assert_eq!(card::write(49, A, &mut []), Err(Error::NotAnIndex));
+    assert_eq!(card::write(40, A, &mut space[..511]), Err(Error::SpaceShort { needed: 512 }));
+    assert_eq!(space, [77; 600]);
+    assert_eq!(card::write(40, A, &mut space), Ok(512));
+    assert_eq!(space[512..], [77; 88]);
+    assert_eq!(card::image(40, A).as_deref(), Ok(&space[..512]));
+    assert_eq!(card::image(49, A), Err(Error::NotAnIndex));
+    assert_eq!(card::read(&space[..512]).unwrap().as_index(), A);
+    assert_eq!(card::read(&[]), Err(Error::BadBlock { block: 0 }));
+    assert_eq!(card::read(&space[..511]), Err(Error::BadBlock { block: 0 }));
+    assert_eq!(card::read(&space[..513]), Err(Error::BadBlock { block: 1 }));
+}
+
+/// The block with these bytes at this place and a check that fits.
+fn sealed(block: &[u8], at: usize, bytes: &[u8]) -> Vec<u8> {
+    let mut block = block.to_vec();
+    block[at..at + bytes.len()].copy_from_slice(bytes);
+    let (mut a, mut b) = (0, 0);
+    for pair in block[..508].chunks(2) {
+        a = (a + u32::from(u16::from_le_bytes([pair[0], pair[1]]))) % 65_535;
+        b = (b + a) % 65_535;
+    }
+    block[508..].copy_from_slice(&(a + 65_536 * b).to_le_bytes());
+    block
+}
+
+#[test]
+fn of_a_card_that_is_read() {
+    let image = card::image(40, A).unwrap();
+    assert_eq!(sealed(&image, 0, &[]), image);
+    let read = |at: usize, bytes: &[u8]| card::read(&sealed(&image, at, bytes)).unwrap_err();
+    assert_eq!(read(4, &[2]), Error::OtherEdition { block: 0 });
+    assert_eq!(read(0, &[1]), Error::BadBlock { block: 0 });
+    assert_eq!(read(8, &[52]), Error::BadBlock { block: 0 });
+    assert_eq!(read(12, &[1, 0, 0, 1]), Error::ColumnTooLong);
+    assert_eq!(read(28, &[20]), Error::BadBorders);
+    assert_eq!(read(36, &[0]), Error::NotAnIndex);
+    assert_eq!(read(12, &[49]), Error::NotAnIndex);
+}
+
+/// A header that claims more than any index has gets no space; a good block 0 is taken afterwards.
+#[test]
+fn of_a_card_that_claims() {
+    let image = card::image(40, A).unwrap();
+    let full = sealed(&image, 8, &[240, 1]);
+    let mut reader = card::CardReader::new();
+    for (at, bytes, needed) in [
+        (12, [255; 16], u32::MAX as usize),
+        (16, [64, 0, 0, 0, 255, 255, 255, 255, 255, 255, 255, 255, 0, 0, 0, 0], 64),
+        (16, [63, 0, 0, 0, 1, 0, 16, 0, 255, 255, 255, 255, 0, 0, 0, 0], 1_048_577),
+        (16, [63, 0, 0, 0, 0, 0, 16, 0, 0, 0, 0, 128, 0, 0, 0, 0], 1 << 31),
+    ] {
+        assert_eq!(reader.feed(&sealed(&full, at, &bytes)), Err(Error::SpaceShort { needed }));
+        assert_eq!((reader.due(), reader.ended()), (0, false));
+    }
+    // As much as any index has is taken.
+    let mut most = reader.clone();
+    assert_eq!(most.feed(&sealed(&full, 16, &[63, 0, 0, 0, 0, 0, 16, 0, 0, 0, 16, 0])), Ok(false));
+    assert_eq!(most.state(), card::State { due: 1, rows: 40, borders: 63, imprints: 1 << 20, dictionary: 1 << 20 });
+    assert_eq!(most.finish(), Err(Error::BadBlock { block: 1 }));
+    // Spaces that were made for a block 0 that holds no index are not too long for the next.
+    let longer = card::image(100, Index { borders: &[1, 2, 3], imprints: &[1, 2, 1, 2, 1, 2, 1], dictionary: &[7] }).unwrap();
+    assert_eq!(reader.feed(&sealed(&longer, 12, &[1])), Err(Error::NotAnIndex));
+    assert_eq!(reader.feed(&image), Ok(true));
+    assert_eq!(reader.feed(&[]), Err(Error::BadBlock { block: 1 }));
+    assert!(reader.ended());
+    let index = reader.finish().unwrap();
+    assert_eq!((index.covered(), index.as_index()), (40, A));
+}
+
+/// An index from the card grows like any other.
+#[test]
+fn of_an_index_from_a_card() {
+    let column: Vec<i32> = (0..5000).map(|row| row / 40 % 9 + row % 2 * (row / 1000)).collect();
+    let mut index = IndexBuf::build(&column[..2000]).unwrap();
+    let mut from_card = card::read(&card::image(2000, index.as_index()).unwrap()).unwrap();
+    assert_eq!(from_card, index);
+    index.append(&column).unwrap();
+    from_card.append(&column).unwrap();
+    assert_eq!(from_card, index);
+}
+
+#[test]
 fn numbers() {
     let all = [
         Error::LowAboveHigh,
@@ -177,7 +266,13 @@ fn numbers() {
         Error::NothingToForget,
         Error::RoomTooLarge,
     ];
-    for (error, number) in all.into_iter().zip(1..).chain([(Error::NegativeMinute { row: 1 }, 13), (Error::CoveredAboveRows, 17)]) {
+    let others = [
+        (Error::NegativeMinute { row: 1 }, 13),
+        (Error::OtherEdition { block: 1 }, 14),
+        (Error::BadBlock { block: 1 }, 15),
+        (Error::CoveredAboveRows, 17),
+    ];
+    for (error, number) in all.into_iter().zip(1..).chain(others) {
         assert_eq!(error.number(), number);
         assert!(!error.to_string().is_empty());
     }
