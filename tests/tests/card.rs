@@ -171,7 +171,7 @@ fn every_number_of_borders() {
             let singles = singles_of(borders, if borders == 0 { 0 } else { lines });
             for (rows, index) in [(16 * singles.imprints.len() as u64, singles), (rows, index_of(&mut dice, borders, lines))] {
                 let total = plain_card::payload(rows, &index).len();
-                full += (total % PAYLOAD == 0) as usize;
+                full += total.is_multiple_of(PAYLOAD) as usize;
                 across += (borders % 2 == 1 && PAYLOAD < total) as usize;
                 let image = held::card_write(rows, &index, total.div_ceil(PAYLOAD) * BLOCK).unwrap();
                 read_back(rows, &index, &image, 1);
