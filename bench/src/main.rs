@@ -1,8 +1,9 @@
-//! Search beside an ordinary Rust scan, build beside the same loop by hand, append beside build, the register beside a plain loop, in one run,
-//! as ratios. Prints tables in markdown; its progress goes to standard error.
+//! Search beside an ordinary Rust scan, build beside the same loop by hand, append beside build, the register and the card beside plain loops,
+//! in one run, as ratios. Prints tables in markdown; its progress goes to standard error.
 //! `MGZ_BENCH_ROWS`, `MGZ_BENCH_REPS` and `MGZ_BENCH_CALLS` make it shorter or longer.
 mod appends;
 mod builds;
+mod cards;
 mod filters;
 mod inputs;
 mod lookups;
@@ -171,5 +172,6 @@ fn main() {
     println!("|---|---|---|\n{guarded}\n");
     lookups::measure(rows, reps.min(5));
     registers::measure(rows, reps.min(5));
+    cards::measure(rows, reps);
     filters::measure(reps, calls);
 }
