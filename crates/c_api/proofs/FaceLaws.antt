@@ -16,10 +16,17 @@ use Rattle.range_filter.proofs.Only.{fresh-only, fresh-refused, ask-only, learn
 use Rattle.hour_register.specs.Promise.{register-number, register-beside}
 use Rattle.hour_register.specs.declared.RegisterAnswer.{RegisterAnswer}
 use Rattle.hour_register.proofs.PromiseLaws.{registers-only, registers-keeps}
+use Rattle.card_image.specs.Promise.{write-number, write-beside}
+use Rattle.card_image.specs.declared.WriteAnswer.{WriteAnswer}
+use Rattle.card_image.proofs.PromiseLaws.{writes-only, writes-keeps}
+use Rattle.card_reader.specs.Promise.{feed-number, feed-beside}
+use Rattle.card_reader.specs.declared.Reader.{Reader}
+use Rattle.card_reader.specs.declared.FeedAnswer.{FeedAnswer}
+use Rattle.card_reader.proofs.PromiseLaws.{feeds-only, feeds-keeps}
 use Rattle.guarded_search.specs.Promise.{guard-number, guard-beside}
 use Rattle.guarded_search.proofs.Only.{guards-only, guards-refused}
 use Rattle.answers.specs.Beside.{unpack-needed}
-use Rattle.c_api.specs.Promise.{BuildFace, AppendFace, PackFace, UnpackFace, StepFace, SearchFace, FreshFace, AskFace, LearnFace, ArriveFace, DepartFace, ForgetFace, ReadFace, GuardFace, RegisterFace}
+use Rattle.c_api.specs.Promise.{BuildFace, AppendFace, PackFace, UnpackFace, StepFace, SearchFace, FreshFace, AskFace, LearnFace, ArriveFace, DepartFace, ForgetFace, ReadFace, GuardFace, RegisterFace, WriteFace, FeedFace}
 
 -- what is said of one answer by one function is one thing
 one : {A B : Type 0} (f : A → B) {r s : A} {m n : B} → r ≡ s → m ≡ f r → n ≡ f s → m ≡ n
@@ -147,3 +154,23 @@ module _ {col : List ℤ} {ws : List ℕ} where
 
   pub register-keeps : {n : ℕ} {w₁ o₁ : List ℕ} → RegisterFace col ws n w₁ o₁ → (n ≡ 0 → ⊥) → w₁ ≡ ws
   register-keeps p ne = registers-keeps (p .registers) (λ z. ne (p .number ∙ z))
+
+-- ---- the card
+
+module _ {rows : ℕ} {bs : List ℤ} {is ds card : List ℕ} where
+  pub write-only : {m n : ℕ} {c₁ c₂ o₁ o₂ : List ℕ} → WriteFace rows bs is ds card m c₁ o₁ → WriteFace rows bs is ds card n c₂ o₂ → (m ≡ n) × (c₁ ≡ c₂) × (o₁ ≡ o₂)
+  write-only p q =
+      let e = writes-only (p .writes) (q .writes) in
+      (one (λ (a : WriteAnswer). numbered (write-number a)) (e .0) (p .number) (q .number), e .1, one write-beside (e .0) (p .words) (q .words))
+
+  pub write-keeps : {n : ℕ} {c₁ o₁ : List ℕ} → WriteFace rows bs is ds card n c₁ o₁ → (n ≡ 0 → ⊥) → c₁ ≡ card
+  write-keeps p ne = writes-keeps (p .writes) (λ z. ne (p .number ∙ z))
+
+module _ {b : List ℕ} {s : Reader} {bs : List ℤ} {is ds : List ℕ} where
+  pub feed-only : {m n : ℕ} {b₁ b₂ : List ℤ} {i₁ i₂ d₁ d₂ o₁ o₂ : List ℕ} → FeedFace b s bs is ds m b₁ i₁ d₁ o₁ → FeedFace b s bs is ds n b₂ i₂ d₂ o₂ → (m ≡ n) × (b₁ ≡ b₂) × (i₁ ≡ i₂) × (d₁ ≡ d₂) × (o₁ ≡ o₂)
+  feed-only p q =
+      let e = feeds-only (p .feeds) (q .feeds) in
+      (one (λ (a : FeedAnswer). numbered (feed-number a)) (e .0) (p .number) (q .number), e .1, e .2, e .3, one feed-beside (e .0) (p .words) (q .words))
+
+  pub feed-keeps : {n : ℕ} {b₁ : List ℤ} {i₁ d₁ o₁ : List ℕ} → FeedFace b s bs is ds n b₁ i₁ d₁ o₁ → (n ≡ 0 → ⊥) → (b₁ ≡ bs) × (i₁ ≡ is) × (d₁ ≡ ds)
+  feed-keeps p ne = feeds-keeps (p .feeds) (λ z. ne (p .number ∙ z))

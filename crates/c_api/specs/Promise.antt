@@ -23,6 +23,12 @@ use Rattle.range_filter.specs.declared.Reading.{Reading}
 use Rattle.answers.specs.Beside.{unpack-needed, step-number, step-beside}
 use Rattle.hour_register.specs.Promise.{Registers, register-number, register-beside}
 use Rattle.hour_register.specs.declared.RegisterAnswer.{RegisterAnswer}
+use Rattle.card_image.specs.Image.{first-edition, index-words}
+use Rattle.card_image.specs.Promise.{Writes, write-number, write-beside}
+use Rattle.card_image.specs.declared.WriteAnswer.{WriteAnswer}
+use Rattle.card_reader.specs.Promise.{Feeds, feed-number, feed-beside}
+use Rattle.card_reader.specs.declared.Reader.{Reader}
+use Rattle.card_reader.specs.declared.FeedAnswer.{FeedAnswer}
 use Rattle.guarded_search.specs.Promise.{Guards, guard-number, guard-beside}
 use Rattle.guarded_search.specs.declared.GuardAnswer.{GuardAnswer}
 
@@ -128,3 +134,19 @@ pub record RegisterFace (col : List ℤ) (ws : List ℕ) (n : ℕ) (ws′ out′
   pub registers : Registers col ws answer ws′
   pub number : n ≡ numbered (register-number answer)
   pub words : out′ ≡ register-beside answer
+
+-- ---- the card
+
+-- write; beside the number: needed and bytes
+pub record WriteFace (rows : ℕ) (bs : List ℤ) (is ds card : List ℕ) (n : ℕ) (card′ out′ : List ℕ) : Type 0 where
+  pub answer : WriteAnswer
+  pub writes : Writes first-edition rows (index-words bs is ds) card answer card′
+  pub number : n ≡ numbered (write-number answer)
+  pub words : out′ ≡ write-beside answer
+
+-- feed; b is the block, s the reader; beside the number: needed, block, ended, and the reader afterwards
+pub record FeedFace (b : List ℕ) (s : Reader) (bs : List ℤ) (is ds : List ℕ) (n : ℕ) (bs′ : List ℤ) (is′ ds′ out′ : List ℕ) : Type 0 where
+  pub answer : FeedAnswer
+  pub feeds : Feeds first-edition b s (index-words bs is ds) answer (index-words bs′ is′ ds′)
+  pub number : n ≡ numbered (feed-number answer)
+  pub words : out′ ≡ feed-beside answer

@@ -11,20 +11,24 @@ use Rattle.card_block.specs.Block.{number-of, length-of, payload-of, filled-up}
 use Rattle.card_image.specs.Image.{Edition, Words}
 use Rattle.card_reader.specs.declared.Reader.{Reader}
 
+-- the block due, and the header's counts
+abbrev pub reader : ℕ → ℕ → ℕ → ℕ → ℕ → Reader
+reader due rows b i d = record { due = due; rows = rows; borders = b; imprints = i; dictionary = d }
+
 -- a fresh reader
 abbrev pub fresh : Reader
-fresh = record { due = 0; rows = 0; borders = 0; imprints = 0; dictionary = 0 }
+fresh = reader 0 0 0 0 0
 
 -- the reader once the header is known: block 0 says its counts, whatever counts the reader was handed
 abbrev pub headed : List ℕ → Reader
-headed b = record { due = 0; rows = number (take 4 (drop 12 b)); borders = number (take 4 (drop 16 b)); imprints = number (take 4 (drop 20 b)); dictionary = number (take 4 (drop 24 b)) }
+headed b = reader 0 (number (take 4 (drop 12 b))) (number (take 4 (drop 16 b))) (number (take 4 (drop 20 b))) (number (take 4 (drop 24 b)))
 
 abbrev pub known : List ℕ → Reader → Reader
 known b s = cond (eqb (s .due) 0) (headed b) s
 
 -- the reader after the block due is taken
 abbrev pub onward : Reader → Reader
-onward s = record { due = suc (s .due); rows = s .rows; borders = s .borders; imprints = s .imprints; dictionary = s .dictionary }
+onward s = reader (suc (s .due)) (s .rows) (s .borders) (s .imprints) (s .dictionary)
 
 -- ---- what the header's counts say of the block due
 

@@ -9,6 +9,7 @@ use lib.ListN.{length}
 use Rattle.words.specs.Lists.{every, filled}
 use Rattle.words.specs.Bytes.{signed-in}
 use Rattle.card_image.specs.Image.{Edition, Words, blocks}
+use Rattle.card_reader.specs.Reader.{reader}
 use Rattle.card_reader.specs.Promise.{Feeds}
 use Rattle.card_reader.specs.declared.Reader.{Reader}
 use Rattle.card_reader.specs.declared.FeedAnswer.the-variants as feeding
@@ -25,7 +26,7 @@ given-back w v = record { borders = filled (w .borders) (v .borders); imprints =
 
 -- the reader at the end of the image of w, for so many rows: the number of its blocks, and the header's counts
 abbrev pub at-end : Edition → ℕ → Words → Reader
-at-end e rows w = record { due = length (blocks e rows w); rows = rows; borders = length (w .borders); imprints = length (w .imprints); dictionary = length (w .dictionary) }
+at-end e rows w = reader (length (blocks e rows w)) rows (length (w .borders)) (length (w .imprints)) (length (w .dictionary))
 
 -- from reader s and words w the blocks are taken, the last one ends it, with reader t and words v
 pub data Reads (e : Edition) : Reader → Words → List (List ℕ) → Reader → Words → Type 0 where

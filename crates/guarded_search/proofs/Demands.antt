@@ -46,6 +46,14 @@ use Rattle.range_filter.proofs.Only.{fresh-refused, learn-refused, arrive-refus
 use Rattle.hour_register.specs.Promise.{register-number, Registers}
 use Rattle.hour_register.specs.declared.RegisterAnswer.{RegisterAnswer}
 use Rattle.hour_register.proofs.PromiseLaws.{registers-keeps}
+use Rattle.card_image.specs.Image.{first-edition, Words}
+use Rattle.card_image.specs.Promise.{write-number, Writes}
+use Rattle.card_image.specs.declared.WriteAnswer.{WriteAnswer}
+use Rattle.card_image.proofs.PromiseLaws.{writes-keeps}
+use Rattle.card_reader.specs.Promise.{feed-number, Feeds}
+use Rattle.card_reader.specs.declared.Reader.{Reader}
+use Rattle.card_reader.specs.declared.FeedAnswer.{FeedAnswer}
+use Rattle.card_reader.proofs.PromiseLaws.{feeds-keeps}
 use Rattle.guarded_search.specs.Guarded.{keys}
 use Rattle.guarded_search.specs.Promise.{guard-number, Guards}
 use Rattle.guarded_search.specs.Searching.{Turn, Searching, Few-wasted, All-exact}
@@ -98,6 +106,12 @@ demand-1-guarded p ne = guards-refused p ne
 
 pub demand-1-register : {col : List ℤ} {ws ws′ : List ℕ} {r : RegisterAnswer} → Registers col ws r ws′ → (numbered (register-number r) ≡ 0 → ⊥) → ws′ ≡ ws
 demand-1-register p ne = registers-keeps p ne
+
+pub demand-1-card-write : {rows : ℕ} {w : Words} {card card′ : List ℕ} {r : WriteAnswer} → Writes first-edition rows w card r card′ → (numbered (write-number r) ≡ 0 → ⊥) → card′ ≡ card
+demand-1-card-write p ne = writes-keeps p ne
+
+pub demand-1-card-feed : {b : List ℕ} {s : Reader} {w w′ : Words} {r : FeedAnswer} → Feeds first-edition b s w r w′ → (numbered (feed-number r) ≡ 0 → ⊥) → (w′ .borders ≡ w .borders) × (w′ .imprints ≡ w .imprints) × (w′ .dictionary ≡ w .dictionary)
+demand-1-card-feed p ne = feeds-keeps p ne
 
 -- words left by a fresh filter and any calls, searches with both among them, are never refused with 8
 module _ {w : List ℕ} (h : Left-with-both w) where

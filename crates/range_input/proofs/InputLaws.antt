@@ -1,4 +1,4 @@
--- The decoding: signed numbers of their bits, values put into a column one after the other, and which inputs are readable. Assumes nothing.
+-- The decoding: values put into a column one after the other, and which inputs are readable. Assumes nothing.
 use Prim.Native.Nat.{ℕ, suc, _+_, _-_, _*_, _%_, _<_, _≤_}
 use mathlib.Core.Path.{_≡_, refl, sym, _∙_, ap, subst}
 use mathlib.Core.List.{List, [], map}
@@ -10,28 +10,17 @@ use lib.ListN.{length, getD, set, take, length-map}
 use lib.Seq.{sets}
 use mir.Syntax.{w32}
 use mir.Val.{toZ, SFits}
-use mir.ValLaws.{toZ-pos, toZ-neg, toZ-fits}
+use mir.ValLaws.{toZ-fits}
 use borrow.Author.Tests.{lt-ltb, le-ltb, le-leb, lt-leb, eq-eqb, ne-eqb, leb-true, ltb-true, ltb-false}
 use Rattle.words.specs.Lists.{from, filled}
+use Rattle.words.specs.Bytes.{signed}
+use Rattle.words.proofs.SignLaws.{signed-pos, signed-neg}
 use Rattle.words.proofs.ListLaws.{length-from, sets-filled, take-filled}
-use Rattle.range_input.specs.Input.{signed, bits-at, value-at, values-from, rows-of, column-of, readable, input-of, column-after, low-of, high-of, Decodes, minute-count, minutes-of, minutes-readable, minutes-input, minutes-after, Decodes-minutes}
+use Rattle.range_input.specs.Input.{bits-at, value-at, values-from, rows-of, column-of, readable, input-of, column-after, low-of, high-of, Decodes, minute-count, minutes-of, minutes-readable, minutes-input, minutes-after, Decodes-minutes}
 use Rattle.range_input.specs.declared.Input.{Input}
 use Rattle.range_input.specs.declared.Input.the-variants.{Unreadable, Range}
 use Rattle.range_input.specs.declared.Minutes.{Minutes}
 use Rattle.range_input.specs.declared.Minutes.the-variants as alone
-
--- ---- signed numbers
-
-pub signed-pos : (x : ℕ) → x < 2147483648 → toZ w32 x ≡ signed x
-unfolding signed
-signed-pos x h = toZ-pos w32 x h ∙ rw (lt-ltb x 2147483648 h)
-
-pub signed-neg : (x : ℕ) → 2147483648 ≤ x → x < 4294967296 → toZ w32 (4294967295 - (4294967295 - x)) ≡ signed x
-unfolding signed
-signed-neg x h l =
-    let e : 4294967295 - (4294967295 - x) ≡ 4294967296 - suc (4294967295 - x) = omega arith in
-    let k : 4294967295 - x < 2147483648 = omega arith in
-    ap (toZ w32) e ∙ toZ-neg w32 (4294967295 - x) k ∙ rw (le-ltb x 2147483648 h)
 
 -- ---- values, one after the other
 
@@ -195,10 +184,10 @@ module _ {s : List ℕ} {col : List ℤ} {r : Minutes} {col′ : List ℤ} (p : 
 
 -- ---- values are numbers of 32 bits
 
-signed-toZ : (n : ℕ) → n < 4294967296 → toZ w32 n ≡ signed n
+signed-toZ : (n : ℕ) → n < 4294967296 → toZ w32 n ≡ signed 4 n
 signed-toZ n h = go (ltb n 2147483648) refl
   where
-    go : (b : Bool) → ltb n 2147483648 ≡ b → toZ w32 n ≡ signed n
+    go : (b : Bool) → ltb n 2147483648 ≡ b → toZ w32 n ≡ signed 4 n
     go true e = signed-pos n (ltb-true n 2147483648 e)
     go false e =
         let l = ltb-false n 2147483648 e in

@@ -3,25 +3,22 @@ use Prim.Native.Nat.{ℕ, _+_, _-_, _*_, _/_, _%_}
 use mathlib.Core.Path.{_≡_}
 use mathlib.Core.List.{List, map}
 use mathlib.Core.Bool.{Bool, cond, _&&_}
-use lib.Dec.{eqb, leb, ltb}
-use lib.IntN.{ℤ, pos, negsuc}
+use lib.Dec.{eqb, leb}
+use lib.IntN.{ℤ}
 use lib.ListN.{length, getD}
 use Rattle.words.specs.Lists.{from, filled}
+use Rattle.words.specs.Bytes.{signed}
 use Rattle.range_input.specs.declared.Input.{Input}
 use Rattle.range_input.specs.declared.Input.the-variants.{Unreadable, Range}
 use Rattle.range_input.specs.declared.Minutes.{Minutes}
 use Rattle.range_input.specs.declared.Minutes.the-variants as alone
-
--- the signed number of 32 bits: those from 2^31 on stand for -2^31 to -1
-unfoldable pub signed : ℕ → ℤ
-signed w = cond (ltb w 2147483648) (pos w) (negsuc (4294967295 - w))
 
 -- value i of an input: its bytes 4i to 4i + 3, low byte first
 unfoldable pub bits-at : List ℕ → ℕ → ℕ
 bits-at s i = getD s (4 * i) 0 + getD s (4 * i + 1) 0 * 256 + getD s (4 * i + 2) 0 * 65536 + getD s (4 * i + 3) 0 * 16777216
 
 abbrev pub value-at : List ℕ → ℕ → ℤ
-value-at s i = signed (bits-at s i)
+value-at s i = signed 4 (bits-at s i)
 
 -- n values of an input, after the first `skip`
 abbrev pub values-from : List ℕ → ℕ → ℕ → List ℤ

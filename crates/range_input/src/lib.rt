@@ -3,7 +3,7 @@ ghost use mathlib.Core.Path.{_≡_};
 ghost use Prim.Native.Nat.{_+_, _*_, _<_, _≤_};
 ghost use lib.ListN.{length};
 ghost use lib.Seq.{sets};
-ghost use Rattle.range_input.specs.Input.{signed as number, bits-at, value-at as value, values-from, Decodes, Decodes-minutes};
+ghost use Rattle.range_input.specs.Input.{bits-at, value-at as value, values-from, Decodes, Decodes-minutes};
 
 // What an input is.
 pub enum Input {
@@ -15,17 +15,6 @@ pub enum Input {
 pub enum Minutes {
     Unreadable,
     Rows(usize),
-}
-
-// A signed number of its 32 bits.
-fn signed(x: u32) -> i32
-    ensures { λ r. ⌜ r ≡ number x ⌝ }
-{
-    if x < 2147483648 {
-        x as i32
-    } else {
-        !((4294967295 - x) as i32)
-    }
 }
 
 fn wide(x: u8) -> u32
@@ -51,7 +40,7 @@ fn value_at(input: &[u8], i: usize) -> i32
     requires { ⌜ 4 * i + 4 ≤ length (now input) ⌝ }
     ensures { λ r. ⌜ r ≡ value (now (input .entry)) i ⌝ }
 {
-    signed(bits_at(input, i))
+    words::signed_of(bits_at(input, i))
 }
 
 // So many values after the skipped ones, at the front of column.

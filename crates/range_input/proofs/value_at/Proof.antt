@@ -2,7 +2,7 @@
 use mathlib.Core.Path.{_∙_, ap}
 use mir.Syntax.{w32}
 use mir.ValLaws.{toZ-ofZ}
-use Rattle.range_input.specs.Input.{signed}
+use Rattle.words.specs.Bytes.{signed}
 use borrow.Author.Needs.{needs}
 use Rattle.range_input.proofs.value_at.Statement.{statement}
 use Rattle.range_input.proofs.value_at.Tie as tie
@@ -10,11 +10,11 @@ use Rattle.range_input.proofs.value_at.Tie as tie
 bits-at-requires : tie.Need-bits-at-requires
 bits-at-requires c κs = search needs
 
-signed-requires : tie.Need-signed-requires
-signed-requires c κs = search needs
+signed-of-requires : tie.Need-signed-of-requires
+signed-of-requires c κs = search needs
 
 returns : tie.Need-returns
-returns c = toZ-ofZ w32 (c .signed .result) (record { sfits = c .signed .ok }) ∙ c .signed .ensures ∙ ap signed (c .before .bits-at .ensures)
+returns c = toZ-ofZ w32 (c .signed-of .result) (record { sfits = c .signed-of .ok }) ∙ c .signed-of .ensures ∙ ap (signed 4) (c .before .bits-at .ensures)
 
 pub value-at-spec : {M : Type 1} → statement M
-value-at-spec = tie.close (tie.spec bits-at-requires signed-requires returns)
+value-at-spec = tie.close (tie.spec bits-at-requires signed-of-requires returns)
