@@ -7,9 +7,6 @@ use Rattle.dictionary.specs.declared.Step.{Step}
 use Rattle.dictionary.specs.declared.Step.the-variants.{Line, Ended, Wrong}
 use Rattle.column_index.specs.Promise.{unpack-beside}
 use Rattle.column_index.specs.declared.UnpackAnswer.{UnpackAnswer}
-use Rattle.card_reader.specs.Promise.{feed-beside}
-use Rattle.card_reader.specs.declared.Reader.{Reader}
-use Rattle.card_reader.specs.declared.FeedAnswer.{FeedAnswer}
 
 -- unpack; the first of the two words beside the number: the length needed, which 4 alone fills
 abbrev pub unpack-needed : UnpackAnswer → ℕ
@@ -25,16 +22,3 @@ abbrev pub step-beside : Step → List ℕ
 step-beside (Line i p) = 0 ∷ i ∷ p .entry ∷ p .place ∷ p .number ∷ []
 step-beside (Ended p) = 1 ∷ 0 ∷ p .entry ∷ p .place ∷ p .number ∷ []
 step-beside (Wrong p) = 0 ∷ 0 ∷ 0 ∷ 0 ∷ 0 ∷ []
-
--- feed: the words beside the number one by one, and the reader afterwards, which is all zeros beside a refusal
-abbrev pub feed-needed : FeedAnswer → ℕ
-feed-needed a = getD (feed-beside a) 0 0
-
-abbrev pub feed-block : FeedAnswer → ℕ
-feed-block a = getD (feed-beside a) 1 0
-
-abbrev pub feed-ended : FeedAnswer → ℕ
-feed-ended a = getD (feed-beside a) 2 0
-
-abbrev pub feed-reader : FeedAnswer → Reader
-feed-reader a = record { due = getD (feed-beside a) 3 0; rows = getD (feed-beside a) 4 0; borders = getD (feed-beside a) 5 0; imprints = getD (feed-beside a) 6 0; dictionary = getD (feed-beside a) 7 0 }

@@ -3,14 +3,6 @@ ghost use mathlib.Core.Path.{_≡_};
 ghost use mathlib.Core.List.{[], _∷_};
 ghost use lib.ListN.{length};
 
-pub fn put2(out: &mut [u64], a: u64, b: u64)
-    requires { ⌜ length (now out) ≡ 2 ⌝ }
-    ensures { λ _. ⌜ now (out .exit) ≡ a ∷ b ∷ [] ⌝ }
-{
-    out[0] = a;
-    out[1] = b;
-}
-
 pub fn put3(out: &mut [u64], a: u64, b: u64, c: u64)
     requires { ⌜ length (now out) ≡ 3 ⌝ }
     ensures { λ _. ⌜ now (out .exit) ≡ a ∷ b ∷ c ∷ [] ⌝ }
@@ -51,18 +43,4 @@ pub fn put6(out: &mut [u64], a: u64, b: u64, c: u64, d: u64, e: u64, f: u64)
     out[3] = d;
     out[4] = e;
     out[5] = f;
-}
-
-pub fn put8(out: &mut [u64], a: u64, b: u64, c: u64, d: u64, e: u64, f: u64, g: u64, h: u64)
-    requires { ⌜ length (now out) ≡ 8 ⌝ }
-    ensures { λ _. ⌜ now (out .exit) ≡ a ∷ b ∷ c ∷ d ∷ e ∷ f ∷ g ∷ h ∷ [] ⌝ }
-{
-    out[0] = a;
-    out[1] = b;
-    out[2] = c;
-    out[3] = d;
-    out[4] = e;
-    out[5] = f;
-    out[6] = g;
-    out[7] = h;
 }

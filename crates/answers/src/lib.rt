@@ -4,4 +4,3 @@ pub mod beside; // beside.rt: words beside a number
 pub mod index; // index.rt: build, append, pack, unpack and step
 pub mod filter; // filter.rt: the filter's calls
 pub mod register; // register.rt: the hour register
-pub mod card; // card.rt: the card

@@ -16,8 +16,8 @@ pub extern "C" fn mgz_card_write(
     ensures { λ r. ⌜ WriteFace rows (now (borders .entry)) (now (imprints .entry)) (now (dictionary .entry)) (now (card .entry)) r (now (card .exit)) (now (out .exit)) ⌝ }
 {
     let answer = reading_card::write(rows, borders, imprints, dictionary, card);
-    answers::card::write_words(answer, out);
-    answers::card::write_number(answer)
+    card_answers::write_words(answer, out);
+    card_answers::write_number(answer)
 }
 
 // One block fed to a reader: the block due, and once block 0 is read the counts of its header. Beside the number: needed, the block due beside 14 and 15, whether it was the last, and the reader afterwards.
@@ -44,6 +44,6 @@ pub extern "C" fn mgz_card_feed(
         dictionary: dictionary_count,
     };
     let answer = reading_feed::feed(block, reader, borders, imprints, dictionary);
-    answers::card::feed_words(answer, out);
-    answers::card::feed_number(answer)
+    card_answers::feed_words(answer, out);
+    card_answers::feed_number(answer)
 }

@@ -1,13 +1,36 @@
-// The card: an answer's number, and the words beside it.
+// The card's calls: an answer's number, and the words beside it. Apart from `answers`, so that edits of either check its own tables alone.
 use card_image::WriteAnswer;
 use card_reader::FeedAnswer;
 use card_reader::Reader;
 ghost use mathlib.Core.Path.{_≡_};
+ghost use mathlib.Core.List.{[], _∷_};
 ghost use lib.ListN.{length};
 ghost use Rattle.words.specs.Numbers.{numbered};
 ghost use Rattle.card_image.specs.Promise.{write-number, write-beside};
 ghost use Rattle.card_reader.specs.Promise.{feed-number, feed-beside};
-ghost use Rattle.answers.specs.Beside.{feed-needed, feed-block, feed-ended, feed-reader};
+ghost use Rattle.card_answers.specs.Beside.{feed-needed, feed-block, feed-ended, feed-reader};
+
+fn put2(out: &mut [u64], a: u64, b: u64)
+    requires { ⌜ length (now out) ≡ 2 ⌝ }
+    ensures { λ _. ⌜ now (out .exit) ≡ a ∷ b ∷ [] ⌝ }
+{
+    out[0] = a;
+    out[1] = b;
+}
+
+fn put8(out: &mut [u64], a: u64, b: u64, c: u64, d: u64, e: u64, f: u64, g: u64, h: u64)
+    requires { ⌜ length (now out) ≡ 8 ⌝ }
+    ensures { λ _. ⌜ now (out .exit) ≡ a ∷ b ∷ c ∷ d ∷ e ∷ f ∷ g ∷ h ∷ [] ⌝ }
+{
+    out[0] = a;
+    out[1] = b;
+    out[2] = c;
+    out[3] = d;
+    out[4] = e;
+    out[5] = f;
+    out[6] = g;
+    out[7] = h;
+}
 
 // ---- write
 
@@ -28,11 +51,11 @@ pub fn write_words(answer: WriteAnswer, out: &mut [u64])
     ensures { λ _. ⌜ now (out .exit) ≡ write-beside answer ⌝ }
 {
     match answer {
-        WriteAnswer::Done(n) => crate::beside::put2(out, 0, n as u64),
-        WriteAnswer::TooLong => crate::beside::put2(out, 0, 0),
-        WriteAnswer::BadBorders => crate::beside::put2(out, 0, 0),
-        WriteAnswer::NoIndex => crate::beside::put2(out, 0, 0),
-        WriteAnswer::Short(n) => crate::beside::put2(out, n as u64, 0),
+        WriteAnswer::Done(n) => put2(out, 0, n as u64),
+        WriteAnswer::TooLong => put2(out, 0, 0),
+        WriteAnswer::BadBorders => put2(out, 0, 0),
+        WriteAnswer::NoIndex => put2(out, 0, 0),
+        WriteAnswer::Short(n) => put2(out, n as u64, 0),
     }
 }
 
@@ -136,7 +159,7 @@ pub fn feed_words(answer: FeedAnswer, out: &mut [u64])
     ensures { λ _. ⌜ now (out .exit) ≡ feed-beside answer ⌝ }
 {
     let reader = reader_after(answer);
-    crate::beside::put8(
+    put8(
         out,
         needed(answer),
         block_due(answer),

@@ -1,11 +1,11 @@
--- `answers::beside::put8` meets its contract. Assumes nothing.
+-- `card_answers::put8` meets its contract. Assumes nothing.
 use mathlib.Core.List.{[], _∷_}
 use native.Mathlib.Omega.{arith}
 use lib.Seq.{lt-length-sets}
 use Rattle.words.proofs.ListLaws.{sets-whole}
 use borrow.Author.Needs.{needs}
-use Rattle.answers.proofs.beside.put8.Statement.{statement}
-use Rattle.answers.proofs.beside.put8.Tie as tie
+use Rattle.card_answers.proofs.put8.Statement.{statement}
+use Rattle.card_answers.proofs.put8.Tie as tie
 
 slice-write-out : tie.Need-slice-write-out
 slice-write-out c = search needs

@@ -1,9 +1,9 @@
--- `answers::card::write_words` meets its contract, answer by answer. Assumes nothing.
+-- `card_answers::write_words` meets its contract, answer by answer. Assumes nothing.
 use mathlib.Core.Path.{sym, ap, _∙_}
 use Rattle.card_image.specs.Promise.{write-beside}
 use borrow.Author.Needs.{needs}
-use Rattle.answers.proofs.card.write_words.Statement.{statement}
-use Rattle.answers.proofs.card.write_words.Tie as tie
+use Rattle.card_answers.proofs.write_words.Statement.{statement}
+use Rattle.card_answers.proofs.write_words.Tie as tie
 
 enum-known-answer : tie.Need-enum-known-answer
 enum-known-answer c = search needs

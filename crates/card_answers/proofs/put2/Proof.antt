@@ -1,9 +1,9 @@
--- `answers::beside::put2` meets its contract. Assumes nothing.
+-- `card_answers::put2` meets its contract. Assumes nothing.
 use mathlib.Core.List.{[], _∷_}
 use Rattle.words.proofs.ListLaws.{sets-whole}
 use borrow.Author.Needs.{needs}
-use Rattle.answers.proofs.beside.put2.Statement.{statement}
-use Rattle.answers.proofs.beside.put2.Tie as tie
+use Rattle.card_answers.proofs.put2.Statement.{statement}
+use Rattle.card_answers.proofs.put2.Tie as tie
 
 slice-write-out : tie.Need-slice-write-out
 slice-write-out c = search needs

@@ -1,9 +1,9 @@
--- `answers::card::reader_after` meets its contract, answer by answer. Assumes nothing.
+-- `card_answers::reader_after` meets its contract, answer by answer. Assumes nothing.
 use mathlib.Core.Path.{sym, ap}
-use Rattle.answers.specs.Beside.{feed-reader}
+use Rattle.card_answers.specs.Beside.{feed-reader}
 use borrow.Author.Needs.{needs}
-use Rattle.answers.proofs.card.reader_after.Statement.{statement}
-use Rattle.answers.proofs.card.reader_after.Tie as tie
+use Rattle.card_answers.proofs.reader_after.Statement.{statement}
+use Rattle.card_answers.proofs.reader_after.Tie as tie
 
 enum-known-answer : tie.Need-enum-known-answer
 enum-known-answer c = search needs

@@ -1,4 +1,4 @@
--- `answers::card::feed_words` meets its contract. Assumes nothing.
+-- `card_answers::feed_words` meets its contract. Assumes nothing.
 use Prim.Native.Nat.{ℕ}
 use mathlib.Core.Path.{_≡_, refl, _∙_}
 use mathlib.Core.List.{List, [], _∷_}
@@ -6,10 +6,10 @@ use Rattle.card_reader.specs.Promise.{feed-beside}
 use Rattle.card_reader.specs.declared.Reader.{Reader}
 use Rattle.card_reader.specs.declared.FeedAnswer.{FeedAnswer}
 use Rattle.card_reader.specs.declared.FeedAnswer.the-variants as feeding
-use Rattle.answers.specs.Beside.{feed-needed, feed-block, feed-ended, feed-reader}
+use Rattle.card_answers.specs.Beside.{feed-needed, feed-block, feed-ended, feed-reader}
 use borrow.Author.Needs.{needs}
-use Rattle.answers.proofs.card.feed_words.Statement.{statement}
-use Rattle.answers.proofs.card.feed_words.Tie as tie
+use Rattle.card_answers.proofs.feed_words.Statement.{statement}
+use Rattle.card_answers.proofs.feed_words.Tie as tie
 
 -- the words one by one
 each : (n b e : ℕ) (s : Reader) → List ℕ
