@@ -2,41 +2,29 @@
 use Prim.Native.Nat.{ℕ, _+_, _*_, _<_, _≤_}
 use mathlib.Core.Path.{_≡_, refl, ap}
 use mathlib.Core.List.{List}
-use mathlib.Core.Bool.{Bool, true, false, cond, not}
+use mathlib.Core.Bool.{Bool, true, false, cond}
 use native.Mathlib.Nat.{mul-le-mul-left}
 use native.Mathlib.Omega.{arith}
 use lib.Dec.{ltb, lit<, lit≤}
-use lib.ListN.{length}
-use borrow.Author.Tests.{ltb-false}
-use Rattle.words.specs.Numbers.{most-rows}
+use lib.ListN.{length, getD}
+use Rattle.words.specs.Numbers.{numbered, most-rows}
 use Rattle.words.specs.Lists.{ceil}
-use Rattle.bins.specs.Bins.{bins, good-borders}
+use Rattle.bins.specs.Bins.{bins}
 use Rattle.bins.proofs.SampleLaws.{ceil-le}
-use Rattle.dictionary.specs.Dictionary.{pack, unpack, largest, accepted}
+use Rattle.dictionary.specs.Dictionary.{pack, unpack, largest}
 use Rattle.dictionary.proofs.IndexLaws.{pack-unpack, accepted-lines}
 use Rattle.dictionary.proofs.PackLoops.{dict-short, imps-short}
 use Rattle.column_index.proofs.AnswerLaws.{good-few}
+use Rattle.column_index.proofs.CallLaws.{rows-passed}
+use Rattle.column_index.specs.declared.IndexCheck.{IndexCheck}
 use Rattle.column_index.specs.declared.IndexCheck.the-variants as checking
-use Rattle.card_image.specs.Image.{Edition, Words, payload}
-use Rattle.card_image.specs.Promise.{index-check}
+use Rattle.card_image.specs.Image.{Edition, Words, payload, image}
+use Rattle.card_image.specs.Promise.{index-check, write-number, write-beside, write-after, write-answer}
+use Rattle.card_image.specs.declared.WriteAnswer.{WriteAnswer}
+use Rattle.card_image.specs.declared.WriteAnswer.the-variants as writing
 use Rattle.card_image.proofs.ImageLaws.{length-payload}
 
 module _ (e : Edition) (rows : ℕ) (w : Words) where
-  pub record Passed : Type 0 where
-    pub few-rows : rows ≤ most-rows
-    pub good : good-borders (w .borders) ≡ true
-    pub index : accepted largest (bins (w .borders)) (ceil rows (e .kind .per)) (w .dictionary) (w .imprints) ≡ true
-
-  pub fine-passed : index-check e rows w ≡ checking.Fine → Passed
-  fine-passed q = go (ltb most-rows rows) refl (good-borders (w .borders)) refl (accepted largest (bins (w .borders)) (ceil rows (e .kind .per)) (w .dictionary) (w .imprints)) refl q
-    where
-      go : (l : Bool) → ltb most-rows rows ≡ l → (g : Bool) → good-borders (w .borders) ≡ g → (a : Bool) → accepted largest (bins (w .borders)) (ceil rows (e .kind .per)) (w .dictionary) (w .imprints) ≡ a
-          → cond l checking.TooLong (cond (not g) checking.BadBorders (cond (not a) checking.NoIndex checking.Fine)) ≡ checking.Fine → Passed
-      go true p g q a r x = absurd (let z : _≡_ {A = ℕ} 0 1 = cc in omega arith)
-      go false p false q a r x = absurd (let z : _≡_ {A = ℕ} 0 1 = cc in omega arith)
-      go false p true q false r x = absurd (let z : _≡_ {A = ℕ} 0 1 = cc in omega arith)
-      go false p true q true r x = record { few-rows = ltb-false most-rows rows p; good = q; index = r }
-
   -- so many rows have at most so many lines, and these at most so many imprints and dictionary words
   pub record Few : Type 0 where
     pub few-rows : rows ≤ most-rows
@@ -47,7 +35,7 @@ module _ (e : Edition) (rows : ℕ) (w : Words) where
 
   pub fine-few : 0 < e .kind .per → index-check e rows w ≡ checking.Fine → Few
   fine-few per q =
-      let ok = fine-passed q in
+      let ok = rows-passed (e .kind) rows (w .borders) (w .imprints) (w .dictionary) q in
       let lines : ℕ = ceil rows (e .kind .per) in
       let ws : List ℕ = unpack (w .dictionary) (w .imprints) in
       let n = accepted-lines largest (lit≤ tt) (lit< tt) (bins (w .borders)) lines (w .dictionary) (w .imprints) (ok .index) .1 in
@@ -68,3 +56,24 @@ module _ (e : Edition) (rows : ℕ) (w : Words) where
   fine-payload per q =
       let f = fine-few per q in
       omega (arith, length-payload e rows w, f .few-rows, f .few-imprints, f .few-dictionary, f .few-lines, mul-le-mul-left (e .width) (f .few-borders))
+
+  -- the image is written only of words that passed, and its length is told
+  pub done-fine : (space n : ℕ) → writing.Done n ≡ write-answer e rows w space → (index-check e rows w ≡ checking.Fine) × (n ≡ length (image e rows w))
+  unfolding write-answer
+  done-fine space n h = go (index-check e rows w) refl h
+    where
+      number : WriteAnswer → ℕ
+      number a = numbered (write-number a)
+
+      told : WriteAnswer → ℕ
+      told a = getD (write-beside a) 1 0
+
+      fits : (t : Bool) → writing.Done n ≡ cond t (writing.Short (length (image e rows w))) (writing.Done (length (image e rows w))) → n ≡ length (image e rows w)
+      fits true q = absurd (let z : _≡_ {A = ℕ} 0 4 = ap number q in omega arith)
+      fits false q = ap told q
+
+      go : (c : IndexCheck) → index-check e rows w ≡ c → writing.Done n ≡ write-after c (length (image e rows w)) space → (index-check e rows w ≡ checking.Fine) × (n ≡ length (image e rows w))
+      go checking.Fine p q = (p, fits (ltb space (length (image e rows w))) q)
+      go checking.TooLong p q = absurd (let z : _≡_ {A = ℕ} 0 2 = ap number q in omega arith)
+      go checking.BadBorders p q = absurd (let z : _≡_ {A = ℕ} 0 5 = ap number q in omega arith)
+      go checking.NoIndex p q = absurd (let z : _≡_ {A = ℕ} 0 3 = ap number q in omega arith)

@@ -8,9 +8,9 @@ use lib.ListN.{length, take, drop, length-append, length-take, length-drop, leng
 use lib.Seq.{take-nil, take-take}
 use native.Mathlib.Nat.{zero-add, suc-add}
 use native.Mathlib.Omega.{arith}
-use Rattle.words.specs.Lists.{from, ceil, joined}
+use Rattle.words.specs.Lists.{from, ceil, pieces, joined}
 use Rattle.words.specs.Bytes.{bytes, spelt, unsigned}
-use Rattle.words.proofs.ListLaws.{length-from, every-append}
+use Rattle.words.proofs.ListLaws.{length-from, every-append, pieces-nil, pieces-more}
 use Rattle.words.proofs.ByteLaws.{all-bytes, both, bytes-are, length-spelt, spelt-are, every-take, every-drop}
 use Rattle.card_block.specs.Block.{summed, check, front, block}
 use Rattle.card_block.proofs.BlockLaws.{block-length}
@@ -105,3 +105,15 @@ part-of-front n m p h =
 
 pub part-alike : (n m : ℕ) (p q : List ℕ) → 496 * n + 496 ≤ m → take m p ≡ take m q → part n p ≡ part n q
 part-alike n m p q h a = sym (part-of-front n m p h) ∙ ap (part n) a ∙ part-of-front n m q h
+
+-- ---- the image cut into pieces of 512 bytes is its blocks
+
+cut-joined : (f : ℕ → List ℕ) → ((n : ℕ) → length (f n) ≡ 512) → (ns : List ℕ) → pieces 512 (joined (map f ns)) ≡ map f ns
+cut-joined f h [] = pieces-nil 512 (omega arith)
+cut-joined f h (n ∷ ns) = pieces-more 512 (omega arith) (f n) (joined (map f ns)) (h n) ∙ ap {B = List (List ℕ)} (λ l. f n ∷ l) (cut-joined f h ns)
+
+pub image-cut : (e : Edition) (rows : ℕ) (w : Words) → pieces 512 (image e rows w) ≡ blocks e rows w
+unfolding image blocks
+image-cut e rows w =
+    let p : List ℕ = payload e rows w in
+    cut-joined (λ (i : ℕ). block (e .edition) i (part i p)) (λ i. block-length (e .edition) i (part i p) (part-fits i p)) (from 0 (ceil (length p) 496))

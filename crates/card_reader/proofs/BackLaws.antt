@@ -10,7 +10,7 @@ use lib.Seq.{take-all, take-add, take-at, take-append-add, drop-at, length-take-
 use native.Mathlib.Omega.{arith}
 use borrow.Author.Tests.{leb-true, leb-false, le-leb, lt-leb, lt-ltb, le-ltb, eq-eqb, ne-eqb}
 use Rattle.words.specs.Bytes.{bytes, number}
-use Rattle.words.specs.Lists.{from, ceil, filled}
+use Rattle.words.specs.Lists.{from, ceil, pieces, filled}
 use Rattle.words.proofs.ListLaws.{ceil-below, ceil-reach, take-filled}
 use Rattle.bins.proofs.SampleLaws.{lt-ceil}
 use Rattle.words.proofs.ByteLaws.{all-bytes, both, number-bytes}
@@ -18,17 +18,18 @@ use Rattle.column_index.specs.declared.IndexCheck.{IndexCheck}
 use Rattle.column_index.specs.declared.IndexCheck.the-variants as checking
 use Rattle.card_block.specs.Block.{block, sound, edition-of, number-of, length-of, payload-of, filled-up}
 use Rattle.card_block.proofs.BlockLaws.{number-of-block, edition-of-block, length-of-block, payload-of-block, drop-block, filled-up-block, sound-block}
-use Rattle.card_image.specs.Image.{Edition, Words, payload, part, blocks}
-use Rattle.card_image.specs.Promise.{index-check}
-use Rattle.card_image.proofs.ImageLaws.{length-payload, payload-are, length-part, part-fits, part-are, blocks-length}
-use Rattle.card_image.proofs.FineLaws.{fine-few, fine-payload}
-use Rattle.card_reader.specs.Reader.{fresh, headed, known, total, left, is-last, is-due, laid}
+use Rattle.card_image.specs.Image.{Edition, Words, payload, part, blocks, image}
+use Rattle.card_image.specs.Promise.{index-check, Writes}
+use Rattle.card_image.specs.declared.WriteAnswer.the-variants as writing
+use Rattle.card_image.proofs.ImageLaws.{length-payload, payload-are, length-part, part-fits, part-are, blocks-length, image-cut}
+use Rattle.card_image.proofs.FineLaws.{fine-few, fine-payload, done-fine}
+use Rattle.card_reader.specs.Reader.{fresh, headed, known, total, left, is-last, is-due, laid, told}
 use Rattle.card_reader.specs.Promise.{ended-after, room-answer, feed-answer, Feeds}
 use Rattle.card_reader.specs.Reading.{Held, given-back, at-end, Reads, last, more}
 use Rattle.card_reader.specs.declared.Reader.{Reader}
 use Rattle.card_reader.specs.declared.FeedAnswer.{FeedAnswer}
 use Rattle.card_reader.specs.declared.FeedAnswer.the-variants as feeding
-use Rattle.card_reader.proofs.LaidLaws.{told, words-same, counts, told-length, told-laid, laid-borders, laid-imprints, laid-dictionary, laid-whole}
+use Rattle.card_reader.proofs.LaidLaws.{words-same, counts, told-length, told-laid, laid-borders, laid-imprints, laid-dictionary, laid-whole}
 use Rattle.card_reader.proofs.HeldLaws.{held-laid, held-told, payload-same}
 
 -- ---- part n of X laid over bytes that begin as X does: they then go on as X does
@@ -248,3 +249,11 @@ reads-back e some narrow edition-fits per rows w v fine hw hv rb ri rd =
 -- the words at the fronts of the spaces are then those that were written
 pub told-back : (e : Edition) (rows : ℕ) (w v : Words) → told (at-end e rows w) (given-back w v) ≡ w
 told-back e rows w v = words-same (take-filled (w .borders) (v .borders)) (take-filled (w .imprints) (v .imprints)) (take-filled (w .dictionary) (v .dictionary))
+
+-- THE SAME OF THE CALLS: A CARD THAT WAS WRITTEN, CUT INTO ITS BLOCKS
+pub written-read : (e : Edition) → 0 < e .width → e .width < 256 ^ 4 → e .edition < 256 ^ 4 → 0 < e .kind .per → {rows n : ℕ} {w v : Words} {card card′ : List ℕ} → Writes e rows w card (writing.Done n) card′ → Held e w → Held e v
+    → length (w .borders) ≤ length (v .borders) → length (w .imprints) ≤ length (v .imprints) → length (w .dictionary) ≤ length (v .dictionary) → Reads e fresh v (pieces 512 (take n card′)) (at-end e rows w) (given-back w v)
+written-read e some narrow edition-fits per {rows} {n} {w} {v} {card} {card′} p hw hv rb ri rd =
+    let d = done-fine e rows w (length card) n (p .answers) in
+    let front : take n card′ ≡ image e rows w = ap₂ take (d .1) (p .card-after) ∙ take-filled (image e rows w) card in
+    subst (λ (bs : List (List ℕ)). Reads e fresh v bs (at-end e rows w) (given-back w v)) (sym (ap (pieces 512) front ∙ image-cut e rows w)) (reads-back e some narrow edition-fits per rows w v (d .0) hw hv rb ri rd)

@@ -15,11 +15,11 @@ use Rattle.words.specs.Bytes.{bytes, number, spelt, numbers, unsigned, signed, 
 use Rattle.words.proofs.ByteLaws.{all-bytes, all-in, both, parts, length-spelt, numbers-spelt, every-take, unsigned-signed, signed-unsigned}
 use Rattle.card_block.specs.Block.{payload-of}
 use Rattle.card_image.specs.Image.{Edition, Words, payload}
-use Rattle.card_reader.specs.Reader.{overlaid, reached, relaid, laid}
+use Rattle.card_reader.specs.Reader.{overlaid, reached, relaid, laid, told}
 use Rattle.card_reader.specs.Reading.{Held}
 use Rattle.card_reader.specs.declared.Reader.{Reader}
 use Rattle.card_reader.proofs.RelaidLaws.{laid-number}
-use Rattle.card_reader.proofs.LaidLaws.{told, words-same}
+use Rattle.card_reader.proofs.LaidLaws.{words-same}
 
 -- ---- f holds of each
 

@@ -16,14 +16,10 @@ use Rattle.words.proofs.ByteLaws.{all-bytes, length-spelt, spelt-numbers, every
 use Rattle.card_block.specs.Block.{length-of, payload-of}
 use Rattle.card_image.specs.Image.{Edition, Words, header, body, payload, part}
 use Rattle.card_image.proofs.ImageLaws.{length-payload}
-use Rattle.card_reader.specs.Reader.{headed, total, left, overlaid, relaid, laid}
+use Rattle.card_reader.specs.Reader.{headed, total, left, overlaid, relaid, told, laid}
 use Rattle.card_reader.specs.declared.Reader.{Reader}
 use Rattle.card_reader.proofs.OverLaws.{overlaid-append, overlaid-before, overlaid-whole, length-overlaid}
 use Rattle.card_reader.proofs.RelaidLaws.{length-relaid, spelt-relaid}
-
--- the words that the header counts, at the fronts of the lent spaces
-abbrev pub told : Reader → Words → Words
-told s w = record { borders = take (s .borders) (w .borders); imprints = take (s .imprints) (w .imprints); dictionary = take (s .dictionary) (w .dictionary) }
 
 -- the bytes of the header's counts
 abbrev pub counts : Reader → List ℕ

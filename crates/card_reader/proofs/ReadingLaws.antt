@@ -18,11 +18,11 @@ use Rattle.card_block.proofs.BlockLaws.{block-is, payload-length, payload-bytes
 use Rattle.card_image.specs.Image.{Edition, Words, payload, part, blocks}
 use Rattle.card_image.specs.Promise.{index-check}
 use Rattle.card_image.proofs.ImageLaws.{part-alike}
-use Rattle.card_reader.specs.Reader.{fresh, headed, known, total, left, laid}
+use Rattle.card_reader.specs.Reader.{fresh, headed, known, total, left, laid, told}
 use Rattle.card_reader.specs.Reading.{Reads, last, more}
 use Rattle.card_reader.specs.declared.Reader.{Reader}
 use Rattle.card_reader.proofs.TakenLaws.{known-due, Taken, taken-more, taken-last}
-use Rattle.card_reader.proofs.LaidLaws.{told, counts, headed-counts, over-front, over-part, over-long, told-length, told-laid, laid-whole}
+use Rattle.card_reader.proofs.LaidLaws.{counts, headed-counts, over-front, over-part, over-long, told-length, told-laid, laid-whole}
 
 -- what lies before the block due does not depend on its header
 known-front : (e : Edition) (b : List ℕ) (s : Reader) (w : Words) → take (496 * s .due) (payload e (known b s .rows) (told (known b s) w)) ≡ take (496 * s .due) (payload e (s .rows) (told s w))

@@ -77,10 +77,14 @@ relaid-values k = relaid (unsigned k) (signed k) k
 abbrev pub relaid-words : ℕ → ℕ → List ℕ → ℕ → List ℕ → List ℕ
 relaid-words = relaid (λ x. x) (λ x. x)
 
--- the words that the header counts, at the fronts of the lent spaces, with the block's payload laid over
+-- the words that the header counts, at the fronts of the lent spaces
+abbrev pub told : Reader → Words → Words
+told s w = record { borders = take (s .borders) (w .borders); imprints = take (s .imprints) (w .imprints); dictionary = take (s .dictionary) (w .dictionary) }
+
+-- these with the payload of the block due laid over
 abbrev pub laid : Edition → List ℕ → Reader → Words → Words
 laid e b s w = record {
-  borders = relaid-values (e .width) (496 * s .due) (payload-of b) 16 (take (s .borders) (w .borders));
-  imprints = relaid-words 8 (496 * s .due) (payload-of b) (16 + e .width * s .borders) (take (s .imprints) (w .imprints));
-  dictionary = relaid-words 4 (496 * s .due) (payload-of b) (16 + (e .width * s .borders + 8 * s .imprints)) (take (s .dictionary) (w .dictionary));
+  borders = relaid-values (e .width) (496 * s .due) (payload-of b) 16 (told s w .borders);
+  imprints = relaid-words 8 (496 * s .due) (payload-of b) (16 + e .width * s .borders) (told s w .imprints);
+  dictionary = relaid-words 4 (496 * s .due) (payload-of b) (16 + (e .width * s .borders + 8 * s .imprints)) (told s w .dictionary);
 }

@@ -98,22 +98,24 @@ module _ (k : Kind) (rows : ℕ) (bs : List ℤ) (is ds : List ℕ) where
   pub checked-borders : rows ≤ most-rows → good-borders bs ≡ false → checking.BadBorders ≡ checked-rows k rows bs is ds
   checked-borders h p = checked-rest h false (accepted largest (bins bs) (ceil rows (k .per)) ds is) p refl
 
-module _ (k : Kind) (col bs : List ℤ) (is ds : List ℕ) where
   -- what a passed check says
   pub record Passed : Type 0 where
-    pub few-rows : length col ≤ most-rows
+    pub few-rows : rows ≤ most-rows
     pub good : good-borders bs ≡ true
-    pub index : is-index-for k bs col ds is ≡ true
+    pub index : accepted largest (bins bs) (ceil rows (k .per)) ds is ≡ true
 
-  pub checked-passed : checked-answer k col bs is ds ≡ checking.Fine → Passed
-  unfolding checked-answer
-  checked-passed e = go (ltb most-rows (length col)) refl (good-borders bs) refl (is-index-for k bs col ds is) refl e
+  pub rows-passed : checked-rows k rows bs is ds ≡ checking.Fine → Passed
+  rows-passed e = go (ltb most-rows rows) refl (good-borders bs) refl (accepted largest (bins bs) (ceil rows (k .per)) ds is) refl e
     where
-      go : (l : Bool) → ltb most-rows (length col) ≡ l → (g : Bool) → good-borders bs ≡ g → (a : Bool) → is-index-for k bs col ds is ≡ a → cond l checking.TooLong (cond (not g) checking.BadBorders (cond (not a) checking.NoIndex checking.Fine)) ≡ checking.Fine → Passed
+      go : (l : Bool) → ltb most-rows rows ≡ l → (g : Bool) → good-borders bs ≡ g → (a : Bool) → accepted largest (bins bs) (ceil rows (k .per)) ds is ≡ a → cond l checking.TooLong (cond (not g) checking.BadBorders (cond (not a) checking.NoIndex checking.Fine)) ≡ checking.Fine → Passed
       go true p g q a r e = absurd (let z : _≡_ {A = ℕ} 0 1 = cc in omega arith)
       go false p false q a r e = absurd (let z : _≡_ {A = ℕ} 0 1 = cc in omega arith)
       go false p true q false r e = absurd (let z : _≡_ {A = ℕ} 0 1 = cc in omega arith)
-      go false p true q true r e = record { few-rows = ltb-false most-rows (length col) p; good = q; index = r }
+      go false p true q true r e = record { few-rows = ltb-false most-rows rows p; good = q; index = r }
+
+pub checked-passed : (k : Kind) (col bs : List ℤ) (is ds : List ℕ) → checked-answer k col bs is ds ≡ checking.Fine → Passed k (length col) bs is ds
+unfolding checked-answer
+checked-passed k col bs is ds e = rows-passed k (length col) bs is ds e
 
 -- the range search after the checks
 abbrev pub by-check : IndexCheck → SearchAnswer → SearchAnswer
