@@ -14,10 +14,10 @@ use lib.Signed.{leZ}
 use borrow.Author.Tests.{leb-true, leb-false, le-leb, lt-leb}
 use Rattle.words.specs.Lists.{from, ceil}
 use Rattle.words.proofs.Order.{leZ-refl}
-use Rattle.words.proofs.ListLaws.{length-from, ceil-reach}
+use Rattle.words.proofs.ListLaws.{both, length-from, ceil-reach}
 use Rattle.words.specs.Numbers.{most-rows}
 use Rattle.bins.specs.Bins.{Kind, fault, stride, sampled, without-faults, sample, sort, keep, once, eqZ, spread, borders-of, borders-sorted}
-use Rattle.bins.proofs.BorderLaws.{both, once-length, spread-length}
+use Rattle.bins.proofs.BorderLaws.{once-length, spread-length}
 use Rattle.bins.proofs.LineLaws.{from-place}
 use Rattle.bins.proofs.SortLaws.{leZ-same, sort-length, write-next}
 

@@ -10,8 +10,8 @@ use native.Mathlib.Omega.{arith}
 use borrow.Author.Tests.{eqb-true, eq-eqb}
 use Rattle.words.specs.Lists.{every, same}
 use Rattle.words.specs.Bytes.{bytes, number}
-use Rattle.words.proofs.ListLaws.{same-refl, same-eq}
-use Rattle.words.proofs.ByteLaws.{both, parts, all-bytes, number-bytes, bytes-number, every-take, every-drop}
+use Rattle.words.proofs.ListLaws.{same-refl, same-eq, both, parts, every-take, every-drop}
+use Rattle.words.proofs.ByteLaws.{all-bytes, number-bytes, bytes-number}
 use Rattle.card_block.specs.Block.{check, front, block, sound, number-of, edition-of, length-of, payload-of, filled-up}
 
 -- ---- a block that is written

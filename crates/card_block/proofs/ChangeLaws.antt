@@ -9,8 +9,9 @@ use lib.Seq.{length-take-le, take-set-le, drop-set-lt, take-set-lt, getD-set-sam
 use native.Mathlib.Omega.{arith}
 use borrow.Author.Tests.{ltb-true, leb-true, leb-false}
 use Rattle.words.specs.Lists.{every}
-use Rattle.words.specs.Bytes.{bytes, number, numbers}
-use Rattle.words.proofs.ByteLaws.{parts, all-bytes, number-bytes, every-take}
+use Rattle.words.specs.Bytes.{number, numbers}
+use Rattle.words.proofs.ListLaws.{parts, every-take}
+use Rattle.words.proofs.ByteLaws.{all-bytes, number-bytes}
 use Rattle.card_block.specs.Block.{summed, check, sound}
 use Rattle.card_block.proofs.BlockLaws.{sound-length, sound-check}
 use Rattle.card_block.proofs.SumLaws.{total, summed-a, summed-below}

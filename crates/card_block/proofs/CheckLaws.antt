@@ -1,21 +1,16 @@
 -- The loop over a block's numbers: what its two sums are still to gain. Assumes nothing.
 use Prim.Native.Nat.{ℕ, zero, suc, _+_, _-_, _*_, _%_, _<_, _≤_}
 use mathlib.Core.Path.{_≡_, refl, sym, _∙_, ap, ap₂}
-use mathlib.Core.List.{List, [], _∷_}
-use native.Mathlib.Nat.{mul-le-mul, zero-add, suc-add, add-zero}
+use mathlib.Core.List.{List, _∷_}
+use native.Mathlib.Nat.{mul-le-mul, zero-add, add-zero}
 use native.Mathlib.Omega.{arith}
 use lib.ListN.{length, take, drop}
-use lib.Seq.{take-take, drop-drop, take-nil}
+use lib.Seq.{take-take, drop-drop}
 use Rattle.words.specs.Bytes.{number, numbers}
 use Rattle.words.proofs.ByteLaws.{length-numbers}
+use Rattle.words.proofs.ListLaws.{drop-take}
 use Rattle.card_block.specs.Block.{summed}
 use Rattle.card_block.proofs.SumLaws.{total, weighed, summed-a, summed-b}
-
--- what stands behind place n of a front
-pub drop-take : (n m : ℕ) (l : List ℕ) → drop n (take (n + m) l) ≡ take m (drop n l)
-drop-take zero m l = ap (λ (k : ℕ). take k l) (zero-add m)
-drop-take (suc n) m [] = ap (drop (suc n)) (take-nil (suc n + m)) ∙ sym (take-nil m)
-drop-take (suc n) m (x ∷ l) = ap (λ (k : ℕ). drop (suc n) (take k (x ∷ l))) (suc-add n m) ∙ drop-take n m l
 
 -- a and b after the numbers before place at, so many left
 pub record Summing (block : List ℕ) (a b left at : ℕ) : Type 0 where

@@ -14,7 +14,7 @@ use Rattle.words.proofs.ByteLaws.{number-bytes}
 use Rattle.words.proofs.ListLaws.{same-refl, same-eq, sets-filled}
 use Rattle.card_block.specs.Block.{summed, check, front, block, sound, filled-up, length-of}
 use Rattle.card_block.proofs.SumLaws.{summed-below}
-use Rattle.card_block.proofs.CheckLaws.{drop-take}
+use Rattle.words.proofs.ListLaws.{drop-take}
 
 -- ---- the stored check
 

@@ -5,13 +5,12 @@ use mathlib.Core.List.{List, [], _∷_, _++_, map}
 use mathlib.Core.Bool.{true}
 use lib.Dec.{ltb}
 use lib.ListN.{length, take, drop, length-append, length-take, length-drop, length-map, replicate}
-use lib.Seq.{take-nil, take-take}
-use native.Mathlib.Nat.{zero-add, suc-add}
+use lib.Seq.{take-take}
 use native.Mathlib.Omega.{arith}
 use Rattle.words.specs.Lists.{from, ceil, pieces, joined}
 use Rattle.words.specs.Bytes.{bytes, spelt, unsigned}
-use Rattle.words.proofs.ListLaws.{length-from, every-append, pieces-nil, pieces-more}
-use Rattle.words.proofs.ByteLaws.{all-bytes, both, bytes-are, length-spelt, spelt-are, every-take, every-drop}
+use Rattle.words.proofs.ListLaws.{length-from, every-append, pieces-nil, pieces-more, both, every-take, every-drop, drop-take}
+use Rattle.words.proofs.ByteLaws.{all-bytes, bytes-are, length-spelt, spelt-are}
 use Rattle.card_block.specs.Block.{summed, check, front, block}
 use Rattle.card_block.proofs.BlockLaws.{block-length}
 use Rattle.card_image.specs.Image.{Edition, Words, header, body, payload, part, blocks, image}
@@ -89,11 +88,6 @@ block-are e n p h =
     (append-are (bytes 2 (summed c .a)) (bytes 2 (summed c .b)) (bytes-are 2 (summed c .a)) (bytes-are 2 (summed c .b)))
 
 -- ---- parts of payloads that begin alike
-
-drop-take : (i k : ℕ) (l : List ℕ) → drop i (take (i + k) l) ≡ take k (drop i l)
-drop-take zero k l = ap (λ (m : ℕ). take m l) (zero-add k)
-drop-take (suc i) k [] = ap (λ (m : ℕ). drop (suc i) (take m [])) (suc-add i k) ∙ sym (take-nil k)
-drop-take (suc i) k (x ∷ l) = ap (λ (m : ℕ). drop (suc i) (take m (x ∷ l))) (suc-add i k) ∙ drop-take i k l
 
 -- a part stands in any front that reaches its end
 pub part-of-front : (n m : ℕ) (p : List ℕ) → 496 * n + 496 ≤ m → part n (take m p) ≡ part n p

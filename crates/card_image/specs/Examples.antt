@@ -7,7 +7,7 @@ use lib.IntN.{pos, negsuc}
 use lib.ListN.{length, take, drop, set}
 use Rattle.words.specs.Lists.{from, same}
 use Rattle.card_block.specs.Block.{sound, filled-up}
-use Rattle.card_image.specs.Image.{Words, first-edition, index-words, image}
+use Rattle.card_image.specs.Image.{first-edition, index-words, image}
 
 -- the bytes from place i on are these
 abbrev stand : List ℕ → ℕ → List ℕ → Bool

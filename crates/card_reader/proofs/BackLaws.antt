@@ -11,9 +11,9 @@ use native.Mathlib.Omega.{arith}
 use borrow.Author.Tests.{leb-true, leb-false, le-leb, lt-leb, lt-ltb, le-ltb, eq-eqb, ne-eqb}
 use Rattle.words.specs.Bytes.{bytes, number}
 use Rattle.words.specs.Lists.{from, ceil, pieces, filled}
-use Rattle.words.proofs.ListLaws.{ceil-below, ceil-reach, take-filled}
+use Rattle.words.proofs.ListLaws.{ceil-below, ceil-reach, take-filled, both}
 use Rattle.bins.proofs.SampleLaws.{lt-ceil}
-use Rattle.words.proofs.ByteLaws.{all-bytes, both, number-bytes}
+use Rattle.words.proofs.ByteLaws.{all-bytes, number-bytes}
 use Rattle.column_index.specs.declared.IndexCheck.{IndexCheck}
 use Rattle.column_index.specs.declared.IndexCheck.the-variants as checking
 use Rattle.card_block.specs.Block.{block, sound, edition-of, number-of, length-of, payload-of, filled-up}

@@ -12,7 +12,8 @@ use native.Mathlib.Omega.{arith}
 use borrow.Author.Tests.{ltb-true, ltb-false, lt-ltb}
 use Rattle.words.specs.Lists.{every}
 use Rattle.words.specs.Bytes.{bytes, number, spelt, numbers, unsigned, signed, signed-in}
-use Rattle.words.proofs.ByteLaws.{all-bytes, all-in, both, parts, length-spelt, numbers-spelt, every-take, unsigned-signed, signed-unsigned}
+use Rattle.words.proofs.ListLaws.{both, parts, every-take}
+use Rattle.words.proofs.ByteLaws.{all-bytes, all-in, length-spelt, numbers-spelt, unsigned-signed, signed-unsigned}
 use Rattle.card_block.specs.Block.{payload-of}
 use Rattle.card_image.specs.Image.{Edition, Words, payload}
 use Rattle.card_reader.specs.Reader.{overlaid, reached, relaid, laid, told}

@@ -11,8 +11,8 @@ use native.Mathlib.Omega.{arith}
 use borrow.Author.Tests.{leb-true, leb-false, eqb-true, eqb-false}
 use Rattle.words.specs.Lists.{filled}
 use Rattle.words.specs.Bytes.{bytes, number, spelt, numbers, unsigned, signed}
-use Rattle.words.proofs.ListLaws.{take-filled}
-use Rattle.words.proofs.ByteLaws.{all-bytes, length-spelt, spelt-numbers, every-drop, unsigned-signed}
+use Rattle.words.proofs.ListLaws.{take-filled, every-drop}
+use Rattle.words.proofs.ByteLaws.{all-bytes, length-spelt, spelt-numbers, unsigned-signed}
 use Rattle.card_block.specs.Block.{length-of, payload-of}
 use Rattle.card_image.specs.Image.{Edition, Words, header, body, payload, part}
 use Rattle.card_image.proofs.ImageLaws.{length-payload}

@@ -1,16 +1,16 @@
 -- Bytes laid over bytes: where they lie, and one laying after another. Assumes nothing.
-use Prim.Native.Nat.{ℕ, zero, suc, _+_, _-_, _*_, _/_, _%_, _^_, _<_, _≤_}
-use mathlib.Core.Path.{_≡_, refl, sym, _∙_, ap, ap₂, subst}
-use mathlib.Core.List.{List, [], _∷_, _++_, map, append-assoc, append-nil}
+use Prim.Native.Nat.{ℕ, zero, suc, _+_, _-_, _<_, _≤_}
+use mathlib.Core.Path.{_≡_, refl, sym, _∙_, ap, ap₂}
+use mathlib.Core.List.{List, [], _∷_, _++_, append-assoc}
 use mathlib.Core.Bool.{Bool, true, false, cond, _&&_, false≢true}
-use lib.Dec.{eqb, ltb, leb}
-use lib.ListN.{length, take, drop, getD, length-append, length-drop, length-take, take-append-drop, List·getD-append}
+use lib.Dec.{ltb, leb}
+use lib.ListN.{length, take, drop, getD, length-append, length-drop, take-append-drop, List·getD-append}
 use lib.Seq.{getD-append-add, getD-append-seam, length-take-le, drop-drop}
 use native.Mathlib.Nat.{zero-add, add-zero}
 use native.Mathlib.Omega.{arith}
-use borrow.Author.Tests.{ltb-true, lt-ltb, ltb-false, le-ltb, leb-true, leb-false, le-leb, lt-leb}
-use Rattle.words.specs.Lists.{every}
-use Rattle.words.proofs.ByteLaws.{all-bytes, both, parts}
+use borrow.Author.Tests.{ltb-true, lt-ltb, ltb-false, le-ltb, le-leb, lt-leb}
+use Rattle.words.proofs.ListLaws.{both, parts}
+use Rattle.words.proofs.ByteLaws.{all-bytes}
 use Rattle.card_reader.specs.Reader.{over, overlaid, reached}
 
 -- ---- one byte

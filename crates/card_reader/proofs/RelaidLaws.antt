@@ -1,15 +1,16 @@
 -- Words with bytes laid over: one laying after another, a laying that reaches one word, and what the words' bytes are afterwards. Assumes nothing.
-use Prim.Native.Nat.{ℕ, zero, suc, _+_, _-_, _*_, _/_, _%_, _^_, _<_, _≤_}
+use Prim.Native.Nat.{ℕ, suc, _+_, _-_, _*_, _^_, _<_, _≤_}
 use mathlib.Core.Path.{_≡_, refl, sym, _∙_, ap, ap₂, subst}
 use mathlib.Core.List.{List, [], _∷_, _++_, map}
 use mathlib.Core.Bool.{Bool, true, false, cond, _&&_, false≢true}
-use lib.Dec.{eqb, ltb, leb}
-use lib.ListN.{length, take, drop, getD, set, length-append}
-use native.Mathlib.Nat.{zero-add, add-zero, mul-suc, mul-zero}
+use lib.Dec.{ltb}
+use lib.ListN.{length, length-append}
+use native.Mathlib.Nat.{mul-suc}
 use native.Mathlib.Omega.{arith}
-use borrow.Author.Tests.{ltb-true, lt-ltb, ltb-false, le-ltb}
+use borrow.Author.Tests.{ltb-true, lt-ltb, ltb-false}
 use Rattle.words.specs.Bytes.{bytes, number, spelt}
-use Rattle.words.proofs.ByteLaws.{all-bytes, both, parts, length-bytes, bytes-are, bytes-number, number-below}
+use Rattle.words.proofs.ListLaws.{both, parts}
+use Rattle.words.proofs.ByteLaws.{all-bytes, length-bytes, bytes-are, bytes-number, number-below}
 use Rattle.card_reader.specs.Reader.{over, overlaid, reached, relaid}
 use Rattle.card_reader.proofs.OverLaws.{length-overlaid, overlaid-bytes, overlaid-join, overlaid-again, overlaid-apart, overlaid-append}
 

@@ -9,7 +9,7 @@ use native.Mathlib.Omega.{arith}
 use borrow.Author.Tests.{ltb-true, ltb-false, leb-true, leb-false, eqb-true}
 use Rattle.words.specs.Numbers.{numbered}
 use Rattle.words.specs.Lists.{filled}
-use Rattle.words.proofs.ByteLaws.{parts}
+use Rattle.words.proofs.ListLaws.{parts}
 use Rattle.column_index.specs.declared.IndexCheck.{IndexCheck}
 use Rattle.column_index.specs.declared.IndexCheck.the-variants as checking
 use Rattle.card_block.specs.Block.{sound, edition-of, number-of, length-of, filled-up}

@@ -1,15 +1,15 @@
 -- Four bytes laid over: they reach one word, all of it or a half of it. Assumes nothing.
 use Prim.Native.Nat.{ℕ, zero, suc, _+_, _-_, _*_, _/_, _%_, _^_, _<_, _≤_}
-use mathlib.Core.Path.{_≡_, refl, sym, _∙_, ap, ap₂, subst}
-use mathlib.Core.List.{List, [], _∷_, _++_, map}
-use mathlib.Core.Bool.{Bool, true, false, cond, _&&_}
-use lib.Dec.{eqb, ltb, leb}
-use lib.ListN.{length, take, drop, getD, set, length-append}
-use native.Mathlib.Nat.{zero-add, add-zero, mul-suc, mul-zero}
+use mathlib.Core.Path.{_≡_, refl, sym, _∙_, ap, ap₂}
+use mathlib.Core.List.{List, [], _∷_, _++_}
+use mathlib.Core.Bool.{Bool, true, false, cond}
+use lib.Dec.{ltb, leb}
+use lib.ListN.{length, getD, set}
+use native.Mathlib.Nat.{add-zero, mul-suc, mul-zero}
 use native.Mathlib.Omega.{arith}
-use borrow.Author.Tests.{ltb-true, lt-ltb, ltb-false, le-ltb, leb-true, leb-false}
+use borrow.Author.Tests.{ltb-true, ltb-false, leb-true, leb-false}
 use Rattle.words.specs.Bytes.{bytes, number}
-use Rattle.words.proofs.ByteLaws.{length-bytes, number-bytes, number-low, number-append, bytes-add}
+use Rattle.words.proofs.ByteLaws.{number-bytes, number-low, number-append, bytes-add}
 use Rattle.card_reader.specs.Reader.{over, overlaid, reached, relaid}
 use Rattle.card_reader.proofs.OverLaws.{over-before, over-behind, over-in, overlaid-append, overlaid-exact, overlaid-before, overlaid-behind}
 use Rattle.card_reader.proofs.RelaidLaws.{is-reached, not-reached-before, relaid-behind}

@@ -2,7 +2,7 @@
 use Prim.Native.Nat.{ℕ, zero, suc, _^_, _<_, _≤_}
 use mathlib.Core.Path.{_≡_, refl, sym, _∙_, ap}
 use mathlib.Core.List.{List, [], _∷_, map}
-use mathlib.Core.Bool.{Bool, true, false, _&&_, and-eq-true-iff}
+use mathlib.Core.Bool.{Bool, true, false}
 use native.Mathlib.Omega.{arith}
 use lib.Dec.{leb, ltb, lit<, lit≤}
 use lib.ListN.{length, take, drop, take-append-drop, length-drop}
@@ -10,7 +10,7 @@ use lib.Seq.{length-take-le}
 use lib.IntN.{ℤ}
 use borrow.Author.Tests.{leb-true, le-leb, leb-false, lt-ltb}
 use Rattle.words.specs.Lists.{pieces, every}
-use Rattle.words.proofs.ListLaws.{pieces-nil, pieces-more, pieces-short}
+use Rattle.words.proofs.ListLaws.{both, pieces-nil, pieces-more, pieces-short}
 use Rattle.bins.specs.Bins.{Kind, InKind, rising, bins, imprint, imprints, borders}
 use Rattle.bins.proofs.BinLaws.{imprint-lt, imprint-pos, imprints-length}
 use Rattle.dictionary.specs.Dictionary.{fit, largest, accepted}
@@ -18,9 +18,6 @@ use Rattle.dictionary.proofs.IndexLaws.{pack-accepted, unpack-pack}
 use Rattle.column_index.specs.Index.{packed-with, built, is-index-for}
 use Rattle.run_search.specs.Search.{scan, search-by, search}
 use Rattle.run_search.proofs.SearchLaws.{search-scan}
-
-both : (a b : Bool) → a ≡ true → b ≡ true → (a && b) ≡ true
-both a b h k = and-eq-true-iff a b .1 (h, k)
 
 -- what holds of every line that has a row holds of every piece
 every-piece : (per : ℕ) → 0 < per → (g : ℕ → Bool) (f : List ℤ → ℕ) → ((x : ℤ) (xs : List ℤ) → g (f (x ∷ xs)) ≡ true) → (n : ℕ) (col : List ℤ) → length col ≤ n → every g (map f (pieces per col)) ≡ true

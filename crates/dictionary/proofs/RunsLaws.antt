@@ -2,11 +2,12 @@
 use Prim.Native.Nat.{ℕ, zero, suc, _≤_}
 use mathlib.Core.Path.{_≡_, refl, _∙_, ap}
 use mathlib.Core.List.{List, [], _∷_, _++_, map}
-use mathlib.Core.Bool.{Bool, true, false, cond, not, _&&_, and-eq-true-iff}
+use mathlib.Core.Bool.{Bool, true, false, cond, not, _&&_}
 use native.Mathlib.Omega.{arith}
 use lib.Dec.{leb, eqb}
 use lib.ListN.{replicate}
 use borrow.Author.Tests.{eqb-true, le-leb}
+use Rattle.words.proofs.ListLaws.{both}
 use Rattle.words.specs.Lists.{joined}
 use Rattle.dictionary.specs.Dictionary.{Run, run, runs-after, runs}
 
@@ -46,9 +47,6 @@ after-other (w ∷ ws) c x y h = go (eqb x w) (after-other ws (suc c) x y h)
     go : (t : Bool) → other y (runs-after (suc c) x ws) ≡ true → other y (cond t (runs-after (suc c) x ws) (run c x ∷ runs-after 1 w ws)) ≡ true
     go true a = a
     go false a = h
-
-both : (a b : Bool) → a ≡ true → b ≡ true → (a && b) ≡ true
-both a b h k = and-eq-true-iff a b .1 (h, k)
 
 after-longest : (ws : List ℕ) (c x : ℕ) → 1 ≤ c → longest (runs-after c x ws) ≡ true
 after-longest [] c x h = both (leb 1 c) true (le-leb 1 c h) refl

@@ -1,7 +1,7 @@
 -- The decoding: values put into a column one after the other, and which inputs are readable. Assumes nothing.
 use Prim.Native.Nat.{ℕ, suc, _+_, _-_, _*_, _%_, _<_, _≤_}
 use mathlib.Core.Path.{_≡_, refl, sym, _∙_, ap, subst}
-use mathlib.Core.List.{List, [], map}
+use mathlib.Core.List.{List, map}
 use mathlib.Core.Bool.{Bool, true, false, cond, _&&_, and-eq-true-iff}
 use native.Mathlib.Omega.{arith}
 use lib.Dec.{eqb, leb, ltb}
@@ -11,7 +11,7 @@ use lib.Seq.{sets}
 use mir.Syntax.{w32}
 use mir.Val.{toZ, SFits}
 use mir.ValLaws.{toZ-fits}
-use borrow.Author.Tests.{lt-ltb, le-ltb, le-leb, lt-leb, eq-eqb, ne-eqb, leb-true, ltb-true, ltb-false}
+use borrow.Author.Tests.{le-leb, lt-leb, eq-eqb, ne-eqb, leb-true, ltb-true, ltb-false}
 use Rattle.words.specs.Lists.{from, filled}
 use Rattle.words.specs.Bytes.{signed}
 use Rattle.words.proofs.SignLaws.{signed-pos, signed-neg}

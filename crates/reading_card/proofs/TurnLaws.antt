@@ -11,8 +11,8 @@ use lib.Seq.{take-add, take-all, length-take-le, drop-drop, drop-append-le, drop
 use borrow.Author.Tests.{ltb-true, ltb-false}
 use Rattle.words.specs.Lists.{every}
 use Rattle.words.specs.Bytes.{bytes, number}
-use Rattle.words.proofs.ListLaws.{every-append, sets-append}
-use Rattle.words.proofs.ByteLaws.{all-bytes, both, length-bytes, bytes-are, bytes-number, every-take, every-drop}
+use Rattle.words.proofs.ListLaws.{every-append, sets-append, both, every-take, every-drop}
+use Rattle.words.proofs.ByteLaws.{all-bytes, length-bytes, bytes-are, bytes-number}
 use Rattle.card_image.specs.Image.{part}
 use Rattle.card_image.proofs.ImageLaws.{length-part, part-fits}
 use Rattle.reading_card.specs.loops.Lays.{Lays, padded}

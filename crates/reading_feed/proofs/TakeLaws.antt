@@ -16,8 +16,8 @@ use denote.Enum.Declared.{tagOf}
 use Rattle.words.specs.Lists.{after, filled}
 use Rattle.words.specs.Numbers.{numbered}
 use Rattle.words.specs.Bytes.{bytes, number, unsigned, signed}
-use Rattle.words.proofs.ByteLaws.{all-bytes, parts, length-bytes}
-use Rattle.words.proofs.ListLaws.{after-keeps}
+use Rattle.words.proofs.ByteLaws.{all-bytes, length-bytes}
+use Rattle.words.proofs.ListLaws.{after-keeps, parts}
 use Rattle.bins.specs.Bins.{readings}
 use Rattle.column_index.specs.Promise.{checked-rows}
 use Rattle.column_index.specs.declared.IndexCheck.{IndexCheck}

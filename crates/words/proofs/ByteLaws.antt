@@ -1,26 +1,18 @@
 -- Numbers and bytes: going there and back, one law over the number of bytes. Assumes nothing.
 use Prim.Native.Nat.{ℕ, zero, suc, _+_, _-_, _*_, _/_, _%_, _^_, _<_, _≤_}
 use mathlib.Core.Path.{_≡_, refl, sym, _∙_, ap, ap₂, subst}
-use mathlib.Core.List.{List, [], _∷_, _++_, map, append-assoc, append-nil}
-use mathlib.Core.Bool.{Bool, true, false, cond, _&&_, false≢true}
-use lib.Dec.{eqb, ltb}
+use mathlib.Core.List.{List, [], _∷_, _++_, append-assoc}
+use mathlib.Core.Bool.{Bool, true, false, cond}
+use lib.Dec.{ltb}
 use lib.IntN.{ℤ, pos, negsuc}
-use lib.ListN.{length, getD, take, drop, length-append, length-drop, take-append-drop}
+use lib.ListN.{length, getD, take, drop, length-append, length-drop}
 use lib.Seq.{take-at, drop-at, take-add, length-take-le, drop-append-le, take-append-le, drop-append-add}
-use native.Mathlib.Nat.{pow-suc, pow-succ', div-lt-iff-lt-mul, mul-suc, mul-zero, mul-comm, zero-add, suc-add, div-one, div-div-eq-div-mul, mul-assoc, mod-eq-of-lt, add-mul-mod-self-left}
+use native.Mathlib.Nat.{pow-suc, pow-succ', div-lt-iff-lt-mul, mul-suc, mul-zero, zero-add, suc-add, div-one, div-div-eq-div-mul, mul-assoc, mod-eq-of-lt, add-mul-mod-self-left}
 use native.Mathlib.Omega.{arith}
-use borrow.Author.Tests.{ltb-true, lt-ltb, ltb-false, le-ltb}
+use borrow.Author.Tests.{ltb-true, lt-ltb, le-ltb}
 use Rattle.words.specs.Lists.{every}
 use Rattle.words.specs.Bytes.{bytes, number, spelt, numbers, unsigned, signed, signed-in}
-use Rattle.words.proofs.ListLaws.{every-append}
-
-pub both : (a b : Bool) → a ≡ true → b ≡ true → (a && b) ≡ true
-both true b p q = q
-both false b p q = p
-
-pub parts : (a b : Bool) → (a && b) ≡ true → (a ≡ true) × (b ≡ true)
-parts true b p = (refl, p)
-parts false b p = absurd (false≢true p)
+use Rattle.words.proofs.ListLaws.{every-append, both, parts, every-take, every-drop}
 
 -- each of the numbers has room in k bytes
 abbrev pub all-in : ℕ → List ℕ → Bool
@@ -114,16 +106,6 @@ numbers-spelt k (x ∷ xs) rest h =
     let t : take k ((bytes k x ++ spelt k xs) ++ rest) ≡ bytes k x = ap (take k) a ∙ take-at (bytes k x) (spelt k xs ++ rest) k (length-bytes k x) in
     let d : drop k ((bytes k x ++ spelt k xs) ++ rest) ≡ spelt k xs ++ rest = ap (drop k) a ∙ drop-at (bytes k x) (spelt k xs ++ rest) k (length-bytes k x) in
     ap₂ (λ (y : ℕ) (ys : List ℕ). y ∷ ys) (ap number t ∙ number-bytes k x (ltb-true x (256 ^ k) (p .0))) (ap (numbers k (length xs)) d ∙ numbers-spelt k xs rest (p .1))
-
-pub every-take : (f : ℕ → Bool) (n : ℕ) (l : List ℕ) → every f l ≡ true → every f (take n l) ≡ true
-every-take f zero l h = refl
-every-take f (suc n) [] h = refl
-every-take f (suc n) (x ∷ l) h = let p = parts (f x) (every f l) h in both (f x) (every f (take n l)) (p .0) (every-take f n l (p .1))
-
-pub every-drop : (f : ℕ → Bool) (n : ℕ) (l : List ℕ) → every f l ≡ true → every f (drop n l) ≡ true
-every-drop f zero l h = h
-every-drop f (suc n) [] h = refl
-every-drop f (suc n) (x ∷ l) h = every-drop f n l (parts (f x) (every f l) h .1)
 
 pub spelt-numbers : (k n : ℕ) (bs : List ℕ) → all-bytes bs ≡ true → k * n ≤ length bs → spelt k (numbers k n bs) ≡ take (k * n) bs
 spelt-numbers k zero bs h l = ap (λ (m : ℕ). take m bs) (sym (mul-zero k))

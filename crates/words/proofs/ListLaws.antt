@@ -5,11 +5,11 @@ use mathlib.Core.List.{List, [], _∷_, _++_, map, append-nil, append-assoc}
 use mathlib.Core.Bool.{Bool, true, false, cond, _&&_, and-eq-true-iff, false≢true}
 use lib.Dec.{leb, eqb}
 use borrow.Author.Tests.{leb-true, leb-false, eq-eqb, eqb-true}
-use native.Mathlib.Nat.{div-eq-of-lt, add-div-left, mul-zero, mul-suc, suc-mul, zero-add, add-zero, mul-comm, le-div-iff-mul-le, div-lt-iff-lt-mul}
+use native.Mathlib.Nat.{suc-add, div-eq-of-lt, add-div-left, mul-zero, mul-suc, suc-mul, zero-add, add-zero, mul-comm, le-div-iff-mul-le, div-lt-iff-lt-mul}
 use native.Mathlib.Omega.{arith}
 use native.Mathlib.Numerals.{add-one}
 use lib.ListN.{length, take, drop, length-append, take-append-drop, length-drop, length-map, set, drop-of-length-le}
-use lib.Seq.{take-all, take-at, drop-at, drop-append-add, length-take-le, take-append-seam, sets, sets-eq}
+use lib.Seq.{take-nil, take-all, take-at, drop-at, drop-append-add, length-take-le, take-append-seam, sets, sets-eq}
 use Rattle.words.specs.Lists.{from, ceil, pieces, joined, times, every, same, filled, after}
 
 pub ceil-zero : (k : ℕ) → 0 < k → ceil 0 k ≡ 0
@@ -116,6 +116,26 @@ every-append f (x ∷ a) b = go (f x) (every-append f a b)
     go true e = e
     go false e = refl
 
+-- tests that hold both, and each of them
+pub both : (a b : Bool) → a ≡ true → b ≡ true → (a && b) ≡ true
+both true b p q = q
+both false b p q = p
+
+pub parts : (a b : Bool) → (a && b) ≡ true → (a ≡ true) × (b ≡ true)
+parts true b p = (refl, p)
+parts false b p = absurd (false≢true p)
+
+-- every, of a front and of what is behind it
+pub every-take : (f : ℕ → Bool) (n : ℕ) (l : List ℕ) → every f l ≡ true → every f (take n l) ≡ true
+every-take f zero l h = refl
+every-take f (suc n) [] h = refl
+every-take f (suc n) (x ∷ l) h = let p = parts (f x) (every f l) h in both (f x) (every f (take n l)) (p .0) (every-take f n l (p .1))
+
+pub every-drop : (f : ℕ → Bool) (n : ℕ) (l : List ℕ) → every f l ≡ true → every f (drop n l) ≡ true
+every-drop f zero l h = h
+every-drop f (suc n) [] h = refl
+every-drop f (suc n) (x ∷ l) h = every-drop f n l (parts (f x) (every f l) h .1)
+
 pub same-refl : (xs : List ℕ) → same xs xs ≡ true
 same-refl [] = refl
 same-refl (x ∷ xs) = and-eq-true-iff (eqb x x) (same xs xs) .1 (eq-eqb x x refl, same-refl xs)
@@ -211,3 +231,10 @@ times-le h (x ∷ l) = go (eqb x h) (times-le h l)
     go : (b : Bool) → times h l ≤ length l → cond b 1 0 + times h l ≤ suc (length l)
     go true ih = omega arith
     go false ih = omega arith
+
+-- ---- what stands behind place n of a front
+
+pub drop-take {ℓ} : {A : Type ℓ} (n m : ℕ) (l : List A) → drop n (take (n + m) l) ≡ take m (drop n l)
+drop-take zero m l = ap (λ (k : ℕ). take k l) (zero-add m)
+drop-take (suc n) m [] = ap (drop (suc n)) (take-nil (suc n + m)) ∙ sym (take-nil m)
+drop-take (suc n) m (x ∷ l) = ap (λ (k : ℕ). drop (suc n) (take k (x ∷ l))) (suc-add n m) ∙ drop-take n m l

@@ -1,6 +1,5 @@
 -- `words::bits_of` meets its contract. Assumes nothing.
-use mathlib.Core.Path.{_≡_, sym, _∙_, ap, subst}
-use mathlib.Core.Bool.{true, false}
+use mathlib.Core.Path.{_≡_, sym, _∙_, ap}
 use lib.IntN.{ℤ, pos, natAbs}
 use lib.Signed.{leZ}
 use native.Mathlib.Omega.{arith}
