@@ -165,7 +165,9 @@ fn every_number_of_borders() {
     let mut dice = Dice::new(402);
     let (mut full, mut across) = (0, 0);
     for borders in 0..=63 {
-        for lines in [0, 1, 2, 27, 28, 29, 58, 59, 60, 61, 89, 90, 200] {
+        // With so many single lines an odd number of borders ends with block 0.
+        let exact = (PAYLOAD - 20 - 4 * borders) / 8;
+        for lines in [0, 1, 2, 27, 28, 29, 58, 59, 60, 61, 89, 90, 200, exact, exact + 1] {
             held::case(format!("{borders} borders, {lines} lines"));
             let rows = (16 * lines) as u64;
             let singles = singles_of(borders, if borders == 0 { 0 } else { lines });
@@ -178,7 +180,7 @@ fn every_number_of_borders() {
             }
         }
     }
-    assert!(8 <= full && 100 <= across, "{full} ended with a block, {across} had a word across two");
+    assert!(32 <= full && 100 <= across, "{full} ended with a block, {across} had a word across two");
 }
 
 /// 2, 5, 3, 4: each stands before all that follow.
