@@ -216,11 +216,12 @@ fn writer_over_strange_indexes() {
     let mut numbers = Numbers::default();
     every_column(403, |dice, column| {
         let index = inputs::strange_index(dice, &column);
-        let off = dice.of(&[0, 0, 0, 1, 16, u64::MAX]);
+        let off = dice.of(&[0, 0, 0, 1, 16, plain::ROWS_AT_MOST as u64, u64::MAX]);
         let rows = (column.len() as u64).wrapping_add(off);
         let needed = plain_card::image(rows, &index).len();
         numbers.count(&held::card_write(rows, &index, inputs::space(dice, needed)));
     });
+    numbers.count(&held::card_write(u64::MAX, &singles_of(1, 1), 512));
     numbers.seen(&[0, 2, 3, 4, 5]);
 }
 
