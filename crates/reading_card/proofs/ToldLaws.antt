@@ -4,8 +4,8 @@ use mathlib.Core.Path.{_≡_, refl, sym, _∙_, ap, ap₂}
 use mathlib.Core.List.{List, [], _∷_, _++_, map, append-nil}
 use native.Mathlib.Omega.{arith}
 use lib.IntN.{ℤ, pos}
-use lib.ListN.{length, getD, take, drop, length-map, length-append, List·getD-map, drop-of-length-le}
-use lib.Seq.{drop-append-add}
+use lib.ListN.{length, getD, take, drop, length-map, length-append, length-drop, List·getD-map, drop-of-length-le}
+use lib.Seq.{drop-append-add, drop-append-le, take-append-le}
 use Rattle.words.specs.Bytes.{bytes, number, spelt, unsigned}
 use Rattle.words.proofs.ByteLaws.{length-spelt, number-bytes, number-low, spelt-at}
 
@@ -73,3 +73,18 @@ module _ (hd : List ℕ) (four : length hd ≡ 4) (bs : List ℤ) (is ds : List 
       let c = length-append (spelt 8 is) (spelt 4 ds) in
       let l : length all ≤ 4 * q = omega (arith, g, four, a, b, c, length-spelt 4 hd, length-spelt 4 (map (unsigned 4) bs), length-map bs (unsigned 4), length-spelt 8 is, length-spelt 4 ds) in
       sym (ap (λ (t : List ℕ). number (take 4 t)) (drop-of-length-le all l))
+
+  -- ---- a block that lies wholly in the imprints, or in the dictionary
+
+  pub told-imprints : (n h : ℕ) → 124 * n ≡ 4 + (length bs + h) → 4 * h + 496 ≤ 8 * length is → take 496 (drop (496 * n) all) ≡ take 496 (drop (4 * h) (spelt 8 is))
+  told-imprints n h g l =
+      let z : 496 * n ≡ 16 + (4 * length bs + 4 * h) = omega (arith, g) in
+      let s = length-spelt 8 is in
+      ap (λ (m : ℕ). take 496 (drop m all)) z
+      ∙ ap (take 496) (behind-borders (4 * h) ∙ drop-append-le (4 * h) (spelt 8 is) (spelt 4 ds) (omega (arith, l, s)))
+      ∙ take-append-le 496 (drop (4 * h) (spelt 8 is)) (spelt 4 ds) (omega (arith, l, s, length-drop (4 * h) (spelt 8 is)))
+
+  pub told-words : (n d : ℕ) → 124 * n ≡ 4 + (length bs + (2 * length is + d)) → take 496 (drop (496 * n) all) ≡ take 496 (drop (4 * d) (spelt 4 ds))
+  told-words n d g =
+      let z : 496 * n ≡ 16 + (4 * length bs + (8 * length is + 4 * d)) = omega (arith, g) in
+      ap (λ (m : ℕ). take 496 (drop m all)) z ∙ ap (take 496) (behind-imprints (4 * d))

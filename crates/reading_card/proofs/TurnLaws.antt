@@ -1,7 +1,7 @@
 -- The loops over the units of a block: what is laid so far, and what is still to be put. Assumes nothing.
 use Prim.Native.Nat.{ℕ, zero, suc, _+_, _-_, _*_, _/_, _%_, _^_, _<_, _≤_, min}
 use mathlib.Core.Path.{_≡_, refl, sym, _∙_, ap, ap₂, subst}
-use mathlib.Core.List.{List, [], _∷_, _++_}
+use mathlib.Core.List.{List, [], _∷_, _++_, append-nil}
 use mathlib.Core.Bool.{Bool, true, false, _&&_}
 use native.Mathlib.Omega.{arith}
 use lib.Dec.{ltb}
@@ -44,15 +44,16 @@ module _ {at : ℕ} {p : List ℕ} {i : ℕ} {bs bs′ : List ℤ} {is ds is′ 
       let t : take (4 * i) p ≡ p = take-all (4 * i) p h in
       (subst (λ (b : List ℕ). Lays at b bs is ds bs′ is′ ds′) t (l .so-far), ap all-bytes (sym t) ∙ l .are)
 
--- a unit of the payload and the filler that stand in a block
-drop-take : (m k : ℕ) (l : List ℕ) → m + 4 ≤ k → take 4 (drop m (take k l)) ≡ take 4 (drop m l)
-drop-take zero k l h = take-take 4 k l (omega (arith, h))
-drop-take (suc m) zero l h = absurd (omega (arith, h))
-drop-take (suc m) (suc k) [] h = refl
-drop-take (suc m) (suc k) (x ∷ l) h = drop-take m k l (omega (arith, h))
+-- bytes within the first k
+pub drop-take : (a m k : ℕ) (l : List ℕ) → m + a ≤ k → take a (drop m (take k l)) ≡ take a (drop m l)
+drop-take a zero k l h = take-take a k l (omega (arith, h))
+drop-take a (suc m) zero l h = absurd (omega (arith, h))
+drop-take a (suc m) (suc k) [] h = refl
+drop-take a (suc m) (suc k) (x ∷ l) h = drop-take a m k l (omega (arith, h))
 
+-- a unit of the payload and the filler that stand in a block
 pub unit-in-block : (b : List ℕ) (i : ℕ) → i < 124 → take 4 (drop (12 + 4 * i) b) ≡ take 4 (drop (4 * i) (take 496 (drop 12 b)))
-unit-in-block b i h = sym (drop-take (4 * i) 496 (drop 12 b) (omega (arith, h)) ∙ ap (take 4) (drop-drop (4 * i) 12 b))
+unit-in-block b i h = sym (drop-take 4 (4 * i) 496 (drop 12 b) (omega (arith, h)) ∙ ap (take 4) (drop-drop (4 * i) 12 b))
 
 pub block-payload : (b : List ℕ) → length b ≡ 512 → length (take 496 (drop 12 b)) ≡ 496
 block-payload b l = length-take-le 496 (drop 12 b) (omega (arith, l, length-drop 12 b))
@@ -63,6 +64,12 @@ pub length-padded : (n : ℕ) (p : List ℕ) → length (padded n p) ≡ 496
 length-padded n p =
     let zeros-long : length (replicate {A = ℕ} (496 - length (part n p)) 0) ≡ 496 - length (part n p) = length-replicate {A = ℕ} (496 - length (part n p)) 0 in
     length-append (part n p) (replicate (496 - length (part n p)) 0) ∙ omega (arith, zeros-long, part-fits n p)
+
+-- a block that is full has no filler
+pub padded-full : (n : ℕ) (p : List ℕ) → 496 * n + 496 ≤ length p → padded n p ≡ part n p
+padded-full n p h =
+    let z : 496 - length (part n p) ≡ 0 = omega (arith, h, length-part n p) in
+    ap (λ (m : ℕ). part n p ++ replicate m 0) z ∙ append-nil (part n p)
 
 zeros : (k : ℕ) → 4 ≤ k → take 4 (replicate k 0) ≡ bytes 4 0
 zeros zero h = absurd (omega (arith, h))
@@ -93,7 +100,7 @@ module _ (n : ℕ) (p : List ℕ) (are : all-bytes p ≡ true) (fours : length p
       go true t =
           let b = ltb-true (4 * i) (length (part n p)) t in
           let inside : 4 * i + 4 ≤ length (part n p) = omega (arith, b, long, fours, h) in
-          let there : take 4 (drop (4 * i) (padded n p)) ≡ take 4 (drop (4 * (124 * n + i)) p) = ap (take 4) (drop-append-le (4 * i) (part n p) z (omega (arith, inside))) ∙ take-append-le 4 (drop (4 * i) (part n p)) z (omega (arith, inside, length-drop (4 * i) (part n p))) ∙ drop-take (4 * i) 496 (drop (496 * n) p) (omega (arith, h)) ∙ ap (take 4) (drop-drop (4 * i) (496 * n) p ∙ ap (λ (m : ℕ). drop m p) (sym place)) in
+          let there : take 4 (drop (4 * i) (padded n p)) ≡ take 4 (drop (4 * (124 * n + i)) p) = ap (take 4) (drop-append-le (4 * i) (part n p) z (omega (arith, inside))) ∙ take-append-le 4 (drop (4 * i) (part n p)) z (omega (arith, inside, length-drop (4 * i) (part n p))) ∙ drop-take 4 (4 * i) 496 (drop (496 * n) p) (omega (arith, h)) ∙ ap (take 4) (drop-drop (4 * i) (496 * n) p ∙ ap (λ (m : ℕ). drop m p) (sym place)) in
           let l : length (take 4 (drop (4 * (124 * n + i)) p)) ≡ 4 = length-take-le 4 (drop (4 * (124 * n + i)) p) (omega (arith, inside, long, place, length-drop (4 * (124 * n + i)) p)) in
           ap (bytes 4) e
           ∙ ap (λ (k : ℕ). bytes k (number (take 4 (drop (4 * (124 * n + i)) p)))) (sym l)

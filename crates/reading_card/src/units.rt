@@ -1,12 +1,13 @@
 // The words of an index in units of four bytes, as they follow each other in a payload: the header's four counts, the borders, the low and the high half of each imprint, the dictionary words. A border and a dictionary word are one unit, so no unit lies in two words.
 ghost use mathlib.Core.Path.{_≡_};
 ghost use mathlib.Core.List.{[], _∷_};
-ghost use Prim.Native.Nat.{_+_, _*_, _/_, _%_, _^_, _<_, _≤_};
+ghost use mathlib.Core.Bool.{true};
+ghost use Prim.Native.Nat.{_+_, _-_, _*_, _/_, _%_, _^_, _<_, _≤_};
 ghost use lib.ListN.{length, take, drop, getD};
 ghost use lib.Seq.{sets};
 ghost use Rattle.words.specs.Bytes.{bytes, number as number-in};
 ghost use Rattle.card_image.specs.Image.{first-edition, index-words, payload};
-ghost use Rattle.reading_card.specs.loops.Lays.{Lays, Lays-half, padded, Are-bytes};
+ghost use Rattle.reading_card.specs.loops.Lays.{Lays, Lays-half, Laid-on, Put-on, padded, Are-bytes};
 
 fn wide(u: u32) -> u64
     ensures { λ r. ⌜ r ≡ u ⌝ }
@@ -118,8 +119,8 @@ fn lay_unit(borders: &mut [i32], imprints: &mut [u64], dictionary: &mut [u32], q
     }
 }
 
-// The payload of block n in a block's bytes, filled up with zeros. Laid over the words it changes nothing.
-pub fn fill_payload(
+// The payload of block n, a unit at a time, wherever it lies.
+fn fill_units(
     block: &mut [u8],
     n: u32,
     rows: u64,
@@ -140,8 +141,121 @@ pub fn fill_payload(
     }
 }
 
-// The payload and the filler of block n laid over the words.
-pub fn lay_payload(
+// All 124 units from unit `first` on lie in the imprints.
+fn in_imprints(first: usize, borders: usize, imprints: usize) -> bool
+    requires { ⌜ first < 2 ^ 40 ⌝ }
+    ensures { λ r. ⌜ (r ≡ true → (4 + borders ≤ first) × ((first - 4 - borders + 123) / 2 < imprints)) ⌝ }
+{
+    if first < 4 {
+        return false;
+    }
+    let j = first - 4;
+    if j < borders {
+        return false;
+    }
+    (j - borders + 123) / 2 < imprints
+}
+
+// All 124 units from unit `first` on lie in the dictionary.
+fn in_dictionary(first: usize, borders: usize, imprints: usize, dictionary: usize) -> bool
+    requires { ⌜ first < 2 ^ 40 ⌝ }
+    ensures { λ r. ⌜ (r ≡ true → (4 + (borders + 2 * imprints) ≤ first) × (first - 4 - borders - 2 * imprints + 123 < dictionary)) ⌝ }
+{
+    if first < 4 {
+        return false;
+    }
+    let j = first - 4;
+    if j < borders {
+        return false;
+    }
+    let h = j - borders;
+    if h / 2 < imprints {
+        return false;
+    }
+    h - 2 * imprints + 123 < dictionary
+}
+
+// Half h + i of the imprints at unit i of a block.
+fn fill_half(block: &mut [u8], imprints: &[u64], h: usize, i: usize)
+    requires { ⌜ (length (now block) ≡ 512) × (h < 2 ^ 40) × (i < 124) × ((h + i) / 2 < length (now imprints)) ⌝ }
+    ensures { λ _. ⌜ Put-on 8 h (now (imprints .entry)) i (now (block .entry)) (i + 1) (now (block .exit)) ⌝ }
+{
+    let u = half_at(imprints, h + i);
+    card_block::put_number(block, 12 + 4 * i, u);
+}
+
+// The whole imprints of a block whose units are halves from half h on; the first begins at unit `from`.
+fn fill_whole(block: &mut [u8], imprints: &[u64], h: usize, from: usize)
+    requires { ⌜ (length (now block) ≡ 512) × (h < 2 ^ 40) × (from ≤ 1) × ((h + from) % 2 ≡ 0) × ((h + 123) / 2 < length (now imprints)) ⌝ }
+    ensures { λ _. ⌜ Put-on 8 h (now (imprints .entry)) from (now (block .entry)) (124 - from) (now (block .exit)) ⌝ }
+{
+    let mut i = from;
+    while i < 123 {
+        let x = imprints[(h + i) / 2];
+        card_block::put_number(&mut *block, 12 + 4 * i, low_of(x));
+        card_block::put_number(&mut *block, 16 + 4 * i, high_of(x));
+        i += 2;
+    }
+}
+
+// A block whose units are halves from half h on: with an odd one a half, whole imprints, a half.
+fn fill_halves(block: &mut [u8], imprints: &[u64], h: usize)
+    requires { ⌜ (length (now block) ≡ 512) × (h < 2 ^ 40) × ((h + 123) / 2 < length (now imprints)) ⌝ }
+    ensures { λ _. ⌜ Put-on 8 h (now (imprints .entry)) 0 (now (block .entry)) 124 (now (block .exit)) ⌝ }
+{
+    if h % 2 == 0 {
+        fill_whole(block, imprints, h, 0);
+        return;
+    }
+    fill_half(&mut *block, imprints, h, 0);
+    fill_whole(&mut *block, imprints, h, 1);
+    fill_half(block, imprints, h, 123);
+}
+
+// A block whose units are dictionary words from word d on.
+fn fill_words(block: &mut [u8], dictionary: &[u32], d: usize)
+    requires { ⌜ (length (now block) ≡ 512) × (d + 123 < length (now dictionary)) ⌝ }
+    ensures { λ _. ⌜ Put-on 4 d (now (dictionary .entry)) 0 (now (block .entry)) 124 (now (block .exit)) ⌝ }
+{
+    let mut i: usize = 0;
+    while i < 124 {
+        let u = dictionary[d + i];
+        card_block::put_number(&mut *block, 12 + 4 * i, u);
+        i += 1;
+    }
+}
+
+// The payload of block n in a block's bytes, filled up with zeros. Laid over the words it changes nothing.
+pub fn fill_payload(
+    block: &mut [u8],
+    n: u32,
+    rows: u64,
+    borders: &[i32],
+    imprints: &[u64],
+    dictionary: &[u32],
+)
+    requires { ⌜ length (now block) ≡ 512 ⌝ }
+    ensures fills { λ _. ⌜ now (block .exit) ≡ sets (now (block .entry)) 12 (padded n (payload first-edition rows (index-words (now (borders .entry)) (now (imprints .entry)) (now (dictionary .entry))))) ⌝ }
+    ensures stays { λ _. ⌜ Lays (496 * n) (padded n (payload first-edition rows (index-words (now (borders .entry)) (now (imprints .entry)) (now (dictionary .entry))))) (now (borders .entry)) (now (imprints .entry)) (now (dictionary .entry)) (now (borders .entry)) (now (imprints .entry)) (now (dictionary .entry)) ⌝ }
+{
+    let first = 124 * n as usize;
+    if in_imprints(first, borders.len(), imprints.len()) {
+        fill_halves(block, imprints, first - 4 - borders.len());
+        return;
+    }
+    if in_dictionary(first, borders.len(), imprints.len(), dictionary.len()) {
+        fill_words(
+            block,
+            dictionary,
+            first - 4 - borders.len() - 2 * imprints.len(),
+        );
+        return;
+    }
+    fill_units(block, n, rows, borders, imprints, dictionary);
+}
+
+// The payload and the filler of block n laid over the words, a unit at a time, wherever it lies.
+fn lay_units(
     block: &[u8],
     n: u32,
     borders: &mut [i32],
@@ -165,4 +279,82 @@ pub fn lay_payload(
         );
         i += 1;
     }
+}
+
+// Unit i of a block laid over half h + i of the imprints.
+fn lay_one(block: &[u8], imprints: &mut [u64], h: usize, i: usize)
+    requires { ⌜ (length (now block) ≡ 512) × (h < 2 ^ 40) × (i < 124) × ((h + i) / 2 < length (now imprints)) ⌝ }
+    ensures { λ _. ⌜ Laid-on 8 h (take 496 (drop 12 (now (block .entry)))) i (now (imprints .entry)) (i + 1) (now (imprints .exit)) ⌝ }
+{
+    let u = card_block::number_at(block, 12 + 4 * i);
+    lay_half(imprints, h + i, u);
+}
+
+// The whole imprints of a block whose units are halves from half h on; the first begins at unit `from`.
+fn lay_whole(block: &[u8], imprints: &mut [u64], h: usize, from: usize)
+    requires { ⌜ (length (now block) ≡ 512) × (h < 2 ^ 40) × (from ≤ 1) × ((h + from) % 2 ≡ 0) × ((h + 123) / 2 < length (now imprints)) ⌝ }
+    ensures { λ _. ⌜ Laid-on 8 h (take 496 (drop 12 (now (block .entry)))) from (now (imprints .entry)) (124 - from) (now (imprints .exit)) ⌝ }
+{
+    let mut i = from;
+    while i < 123 {
+        let low = card_block::number_at(block, 12 + 4 * i);
+        let high = card_block::number_at(block, 16 + 4 * i);
+        imprints[(h + i) / 2] = wide(low) + 4294967296 * wide(high);
+        i += 2;
+    }
+}
+
+// A block whose units are halves from half h on: with an odd one a half, whole imprints, a half.
+fn lay_halves(block: &[u8], imprints: &mut [u64], h: usize)
+    requires { ⌜ (length (now block) ≡ 512) × (h < 2 ^ 40) × ((h + 123) / 2 < length (now imprints)) ⌝ }
+    ensures { λ _. ⌜ Laid-on 8 h (take 496 (drop 12 (now (block .entry)))) 0 (now (imprints .entry)) 124 (now (imprints .exit)) ⌝ }
+{
+    if h % 2 == 0 {
+        lay_whole(block, imprints, h, 0);
+        return;
+    }
+    lay_one(block, &mut *imprints, h, 0);
+    lay_whole(block, &mut *imprints, h, 1);
+    lay_one(block, imprints, h, 123);
+}
+
+// A block whose units are dictionary words from word d on.
+fn lay_words(block: &[u8], dictionary: &mut [u32], d: usize)
+    requires { ⌜ (length (now block) ≡ 512) × (d + 123 < length (now dictionary)) ⌝ }
+    ensures { λ _. ⌜ Laid-on 4 d (take 496 (drop 12 (now (block .entry)))) 0 (now (dictionary .entry)) 124 (now (dictionary .exit)) ⌝ }
+{
+    let mut i: usize = 0;
+    while i < 124 {
+        let u = card_block::number_at(block, 12 + 4 * i);
+        dictionary[d + i] = u;
+        i += 1;
+    }
+}
+
+// The payload and the filler of block n laid over the words.
+pub fn lay_payload(
+    block: &[u8],
+    n: u32,
+    borders: &mut [i32],
+    imprints: &mut [u64],
+    dictionary: &mut [u32],
+)
+    requires { ⌜ length (now block) ≡ 512 ⌝ }
+    ensures laid { λ _. ⌜ Lays (496 * n) (take 496 (drop 12 (now (block .entry)))) (now (borders .entry)) (now (imprints .entry)) (now (dictionary .entry)) (now (borders .exit)) (now (imprints .exit)) (now (dictionary .exit)) ⌝ }
+    ensures are { λ _. ⌜ Are-bytes (take 496 (drop 12 (now (block .entry)))) ⌝ }
+{
+    let first = 124 * n as usize;
+    if in_imprints(first, borders.len(), imprints.len()) {
+        lay_halves(block, imprints, first - 4 - borders.len());
+        return;
+    }
+    if in_dictionary(first, borders.len(), imprints.len(), dictionary.len()) {
+        lay_words(
+            block,
+            dictionary,
+            first - 4 - borders.len() - 2 * imprints.len(),
+        );
+        return;
+    }
+    lay_units(block, n, borders, imprints, dictionary);
 }

@@ -1,105 +1,104 @@
--- `reading_card::units::fill_payload` meets its contract: the units still to come fix every byte, and those put so far change no word. Assumes nothing.
-use Prim.Native.Nat.{ℕ, _+_, _-_, _*_, _%_, _≤_}
-use mathlib.Core.Path.{_≡_, refl, sym, _∙_, ap}
-use mathlib.Core.List.{List}
+-- `reading_card::units::fill_payload` meets its contract: wholly in the imprints, wholly in the dictionary, or anywhere. Assumes nothing.
+use Prim.Native.Nat.{_+_, _-_, _*_}
+use mathlib.Core.Path.{_≡_}
 use native.Mathlib.Omega.{arith}
-use lib.IntN.{ℤ}
-use lib.ListN.{length, drop}
-use lib.Seq.{sets, length-sets}
-use Rattle.words.specs.Bytes.{bytes}
-use Rattle.card_image.specs.Image.{first-edition, index-words, payload}
-use Rattle.card_image.proofs.ImageLaws.{length-payload, payload-are}
-use Rattle.reading_card.specs.loops.Lays.{padded}
-use Rattle.reading_card.proofs.TurnLaws.{Laying, laying-starts, laying-turns, laying-ends, length-padded, padded-unit, puts-turn, filled-ends}
+use lib.ListN.{length}
+use Rattle.reading_card.proofs.PartLaws.{imprints-put-on, words-put-on}
 use borrow.Author.Needs.{needs}
 use Rattle.reading_card.proofs.units.fill_payload.Statement.{statement}
 use Rattle.reading_card.proofs.units.fill_payload.Tie as tie
 
--- what is to stand in the block
-abbrev whole : ℕ → ℕ → List ℤ → List ℕ → List ℕ → List ℕ
-whole n rows bs is ds = padded n (payload first-edition rows (index-words bs is ds))
+mul-first : tie.Need-mul-first
+mul-first c = search needs
 
--- a payload is units from end to end
-fours : (rows : ℕ) (bs : List ℤ) (is ds : List ℕ) → length (payload first-edition rows (index-words bs is ds)) % 4 ≡ 0
-fours rows bs is ds = omega (arith, length-payload first-edition rows (index-words bs is ds))
+in-imprints-requires : tie.Need-in-imprints-requires
+in-imprints-requires c κs = search needs
 
-abbrev Inv-loop : tie.InvT-loop
-Inv-loop block₀ n rows borders imprints dictionary first i₀ block i =
-    (i ≤ 124)
-    × (first ≡ 124 * n)
-    × (length block ≡ 512)
-    × (sets block (12 + 4 * i) (drop (4 * i) (whole n rows borders imprints dictionary)) ≡ sets block₀ 12 (whole n rows borders imprints dictionary))
-    × Laying (496 * n) (whole n rows borders imprints dictionary) i borders imprints dictionary borders imprints dictionary
+sub-fill-halves : tie.Need-sub-fill-halves
+sub-fill-halves c = omega (arith, (c .before .before .in-imprints .ensures (c .before .if1 .taken)) .0)
 
-abbrev μ-loop : tie.MeasureT-loop
-μ-loop block₀ n rows borders imprints dictionary first i₀ block i = 124 - i
+sub-fill-halves-2 : tie.Need-sub-fill-halves-2
+sub-fill-halves-2 c = omega (arith, (c .before .before .in-imprints .ensures (c .before .if1 .taken)) .0)
 
-mul-first : tie.Need-mul-first Inv-loop μ-loop
-mul-first c = record { fits = omega (arith, c .before .before .before .fits .n .fits) }
+fill-halves-requires : tie.Need-fill-halves-requires
+fill-halves-requires c κs =
+    let t = c .before .before .in-imprints .ensures (c .before .if1 .taken) in
+    let s = c .before .before .before .before .before .before in
+    omega (arith, t .0, t .1, s .pre, s .fits .n .fits)
 
-loop-holds : tie.Need-loop-holds Inv-loop μ-loop
-loop-holds c =
-    let a = c .before .before .before .args in
-    (omega arith, refl, c .before .before .before .pre, refl, laying-starts (496 * a .n) (whole (a .n) (a .rows) (a .borders .now) (a .imprints .now) (a .dictionary .now)) (a .borders .now) (a .imprints .now) (a .dictionary .now))
-
-add-unit-at : tie.Need-add-unit-at Inv-loop μ-loop
-add-unit-at c = record { fits = omega (arith, c .before .before .before .before .before .fits .n .fits, c .before .loop .inv .0) }
-
-unit-at-requires : tie.Need-unit-at-requires Inv-loop μ-loop
-unit-at-requires c κs = search needs
-
-mul-put-number : tie.Need-mul-put-number Inv-loop μ-loop
-mul-put-number c = omega arith
-
-add-put-number : tie.Need-add-put-number Inv-loop μ-loop
-add-put-number c = omega arith
-
-put-number-requires : tie.Need-put-number-requires Inv-loop μ-loop
-put-number-requires c κs = omega arith
-
-add-i : tie.Need-add-i Inv-loop μ-loop
-add-i c = omega arith
-
-loop-less : tie.Need-loop-less Inv-loop μ-loop
-loop-less c = omega arith
-
-loop-again : tie.Need-loop-again Inv-loop μ-loop
-loop-again c =
-    let a = c .before .before .before .before .before .before .before .before .before .before .args in
-    let l = c .before .before .before .before .before .before .loop in
-    let u = c .before .before .before .before .unit-at in
-    let p = payload first-edition (a .rows) (index-words (a .borders .now) (a .imprints .now) (a .dictionary .now)) in
-    let less = c .before .before .before .before .before .loop-test .taken in
-    let place : 4 * (124 * a .n + l .i) ≡ 496 * a .n + 4 * l .i = omega arith in
-    let e = padded-unit (a .n) p (payload-are first-edition (a .rows) (index-words (a .borders .now) (a .imprints .now) (a .dictionary .now))) (fours (a .rows) (a .borders .now) (a .imprints .now) (a .dictionary .now)) (l .i) (u .result) less (u .ensures .0) in
-    (omega (arith, less), refl, ap length (c .before .before .put-number .ensures) ∙ length-sets (l .block) (12 + 4 * l .i) (bytes 4 (u .result)) ∙ l .inv .2, ap (λ (b : List ℕ). sets b (12 + 4 * (l .i + 1)) (drop (4 * (l .i + 1)) (padded (a .n) p))) (c .before .before .put-number .ensures) ∙ puts-turn (l .block) (padded (a .n) p) (l .i) (u .result) e ∙ l .inv .3, laying-turns (u .result) (4 * (124 * a .n + l .i)) place (omega (arith, less, length-padded (a .n) p)) e (l .inv .4) (u .ensures .1))
-
-same-length : tie.Need-same-length Inv-loop μ-loop
+same-length : tie.Need-same-length
 same-length c = search needs
 
-returns : tie.Need-returns Inv-loop μ-loop
+returns : tie.Need-returns
 returns c =
-    let a = c .before .before .before .before .before .args in
-    let l = c .before .loop in
-    let f = whole (a .n) (a .rows) (a .borders .now) (a .imprints .now) (a .dictionary .now) in
-    let h : length f ≤ 4 * l .i = omega (arith, length-padded (a .n) (payload first-edition (a .rows) (index-words (a .borders .now) (a .imprints .now) (a .dictionary .now))), c .loop-test .left) in
-    (filled-ends (l .block) (a .block .now) f (l .i) h (l .inv .3), laying-ends h (l .inv .4) .0)
+    let s = c .before .before .before .before .before .before .before .before .before in
+    let a = s .args in
+    let t = c .before .before .before .before .before .in-imprints .ensures (c .before .before .before .before .if1 .taken) in
+    let h = 124 * a .n - 4 - length (a .borders .now) in
+    let place : 124 * a .n ≡ 4 + (length (a .borders .now) + h) = omega (arith, t .0) in
+    imprints-put-on (a .n) (a .borders .now) (a .imprints .now) (a .dictionary .now) h place (t .1) (a .rows) (a .block .now) (c .before .before .fill-halves .last .0) (c .before .before .fill-halves .ensures)
+
+in-dictionary-requires : tie.Need-in-dictionary-requires
+in-dictionary-requires c κs = search needs
+
+sub-fill-words : tie.Need-sub-fill-words
+sub-fill-words c = omega (arith, (c .before .before .in-dictionary .ensures (c .before .if2 .taken)) .0)
+
+sub-fill-words-2 : tie.Need-sub-fill-words-2
+sub-fill-words-2 c = omega (arith, (c .before .before .in-dictionary .ensures (c .before .if2 .taken)) .0)
+
+mul-fill-words : tie.Need-mul-fill-words
+mul-fill-words c = search needs
+
+sub-fill-words-3 : tie.Need-sub-fill-words-3
+sub-fill-words-3 c = omega (arith, (c .before .before .in-dictionary .ensures (c .before .if2 .taken)) .0)
+
+fill-words-requires : tie.Need-fill-words-requires
+fill-words-requires c κs =
+    let t = c .before .before .in-dictionary .ensures (c .before .if2 .taken) in
+    let s = c .before .before .before .before .before .before .before .before in
+    omega (arith, t .0, t .1, s .pre)
+
+same-length-2 : tie.Need-same-length-2
+same-length-2 c = search needs
+
+returns-2 : tie.Need-returns-2
+returns-2 c =
+    let s = c .before .before .before .before .before .before .before .before .before .before .before in
+    let a = s .args in
+    let t = c .before .before .before .before .before .in-dictionary .ensures (c .before .before .before .before .if2 .taken) in
+    let d = 124 * a .n - 4 - length (a .borders .now) - 2 * length (a .imprints .now) in
+    let place : 124 * a .n ≡ 4 + (length (a .borders .now) + (2 * length (a .imprints .now) + d)) = omega (arith, t .0) in
+    words-put-on (a .n) (a .borders .now) (a .imprints .now) (a .dictionary .now) d place (t .1) (a .rows) (a .block .now) (c .before .before .fill-words .last .0) (c .before .before .fill-words .ensures)
+
+fill-units-requires : tie.Need-fill-units-requires
+fill-units-requires c κs = search needs
+
+same-length-3 : tie.Need-same-length-3
+same-length-3 c = search needs
+
+returns-3 : tie.Need-returns-3
+returns-3 c = search needs
 
 pub fill-payload-spec : {M : Type 1} → statement M
 fill-payload-spec =
     tie.close
     (tie.spec
-    Inv-loop
-    μ-loop
     mul-first
-    loop-holds
-    add-unit-at
-    unit-at-requires
-    mul-put-number
-    add-put-number
-    put-number-requires
-    add-i
-    loop-less
-    loop-again
+    in-imprints-requires
+    sub-fill-halves
+    sub-fill-halves-2
+    fill-halves-requires
     same-length
-    returns)
+    returns
+    in-dictionary-requires
+    sub-fill-words
+    sub-fill-words-2
+    mul-fill-words
+    sub-fill-words-3
+    fill-words-requires
+    same-length-2
+    returns-2
+    fill-units-requires
+    same-length-3
+    returns-3)

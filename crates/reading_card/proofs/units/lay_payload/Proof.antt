@@ -1,95 +1,113 @@
--- `reading_card::units::lay_payload` meets its contract: the units laid so far, and that they are bytes. Assumes nothing.
-use Prim.Native.Nat.{ℕ, _+_, _-_, _*_, _≤_}
-use mathlib.Core.Path.{_≡_, refl, _∙_}
+-- `reading_card::units::lay_payload` meets its contract: wholly in the imprints, wholly in the dictionary, or anywhere. Assumes nothing.
+use Prim.Native.Nat.{_+_, _-_, _*_}
+use mathlib.Core.Path.{_≡_}
 use native.Mathlib.Omega.{arith}
 use lib.ListN.{length, take, drop}
-use Rattle.reading_card.proofs.LaysLaws.{borders-long, imprints-long, dictionary-long}
-use Rattle.reading_card.proofs.TurnLaws.{Laying, laying-starts, laying-turns, laying-ends, unit-in-block, block-payload}
+use Rattle.reading_card.proofs.PartLaws.{imprints-laid-on, words-laid-on}
+use Rattle.reading_card.proofs.TurnLaws.{block-payload}
 use borrow.Author.Needs.{needs}
 use Rattle.reading_card.proofs.units.lay_payload.Statement.{statement}
 use Rattle.reading_card.proofs.units.lay_payload.Tie as tie
 
-abbrev Inv-loop : tie.InvT-loop
-Inv-loop block n borders₀ imprints₀ dictionary₀ first i₀ borders imprints dictionary i =
-    (i ≤ 124)
-    × (first ≡ 124 * n)
-    × Laying (496 * n) (take 496 (drop 12 block)) i borders₀ imprints₀ dictionary₀ borders imprints dictionary
+mul-first : tie.Need-mul-first
+mul-first c = search needs
 
-abbrev μ-loop : tie.MeasureT-loop
-μ-loop block n borders₀ imprints₀ dictionary₀ first i₀ borders imprints dictionary i = 124 - i
+in-imprints-requires : tie.Need-in-imprints-requires
+in-imprints-requires c κs = search needs
 
-mul-first : tie.Need-mul-first Inv-loop μ-loop
-mul-first c = record { fits = omega (arith, c .before .before .before .fits .n .fits) }
+sub-lay-halves : tie.Need-sub-lay-halves
+sub-lay-halves c = omega (arith, (c .before .before .in-imprints .ensures (c .before .if1 .taken)) .0)
 
-loop-holds : tie.Need-loop-holds Inv-loop μ-loop
-loop-holds c =
-    let a = c .before .before .before .args in
-    (omega arith, refl, laying-starts (496 * a .n) (take 496 (drop 12 (a .block .now))) (a .borders .now) (a .imprints .now) (a .dictionary .now))
+sub-lay-halves-2 : tie.Need-sub-lay-halves-2
+sub-lay-halves-2 c = omega (arith, (c .before .before .in-imprints .ensures (c .before .if1 .taken)) .0)
 
-mul-number-at : tie.Need-mul-number-at Inv-loop μ-loop
-mul-number-at c = omega arith
+lay-halves-requires : tie.Need-lay-halves-requires
+lay-halves-requires c κs =
+    let t = c .before .before .in-imprints .ensures (c .before .if1 .taken) in
+    let s = c .before .before .before .before .before .before in
+    omega (arith, t .0, t .1, s .pre, s .fits .n .fits)
 
-add-number-at : tie.Need-add-number-at Inv-loop μ-loop
-add-number-at c = omega arith
+same-length : tie.Need-same-length
+same-length c = search needs
 
-number-at-requires : tie.Need-number-at-requires Inv-loop μ-loop
-number-at-requires c κs = omega (arith, c .before .before .before .before .before .pre, c .loop-test .taken)
-
-add-lay-unit : tie.Need-add-lay-unit Inv-loop μ-loop
-add-lay-unit c = record { fits = omega (arith, c .before .before .before .before .before .before .before .before .before .fits .n .fits, c .before .before .before .before .before .loop .inv .0) }
-
-lay-unit-requires : tie.Need-lay-unit-requires Inv-loop μ-loop
-lay-unit-requires c κs = search needs
-
-add-i : tie.Need-add-i Inv-loop μ-loop
-add-i c = omega arith
-
-loop-less : tie.Need-loop-less Inv-loop μ-loop
-loop-less c = omega arith
-
-loop-again : tie.Need-loop-again Inv-loop μ-loop
-loop-again c =
-    let a = c .before .before .before .before .before .before .before .before .before .before .before .before .before .before .before .args in
-    let l = c .before .before .before .before .before .before .before .before .before .before .before .loop in
-    let u = c .before .before .before .before .before .before .before .before .before .number-at in
-    let b = a .block .now in
-    let less = c .before .before .before .before .before .before .before .before .before .before .loop-test .taken in
-    let place : 4 * (124 * a .n + l .i) ≡ 496 * a .n + 4 * l .i = omega arith in
-    (omega (arith, less), refl, laying-turns (u .result) (4 * (124 * a .n + l .i)) place (omega (arith, less, block-payload b (c .before .before .before .before .before .before .before .before .before .before .before .before .before .before .before .pre))) (u .ensures .1 ∙ unit-in-block b (l .i) less) (l .inv .2) (c .before .before .before .before .before .lay-unit .ensures))
-
-same-length : tie.Need-same-length Inv-loop μ-loop
-same-length c = borders-long (c .before .loop .inv .2 .so-far)
-
-same-length-2 : tie.Need-same-length-2 Inv-loop μ-loop
-same-length-2 c = imprints-long (c .before .loop .inv .2 .so-far)
-
-same-length-3 : tie.Need-same-length-3 Inv-loop μ-loop
-same-length-3 c = dictionary-long (c .before .loop .inv .2 .so-far)
-
-returns : tie.Need-returns Inv-loop μ-loop
+returns : tie.Need-returns
 returns c =
-    let a = c .before .before .before .before .before .args in
-    let l = c .before .loop in
-    let h : length (take 496 (drop 12 (a .block .now))) ≤ 4 * l .i = omega (arith, block-payload (a .block .now) (c .before .before .before .before .before .pre), c .loop-test .left) in
-    laying-ends h (l .inv .2)
+    let s = c .before .before .before .before .before .before .before .before .before in
+    let a = s .args in
+    let t = c .before .before .before .before .before .in-imprints .ensures (c .before .before .before .before .if1 .taken) in
+    let h = 124 * a .n - 4 - length (a .borders .now) in
+    let place : 124 * a .n ≡ 4 + (length (a .borders .now) + h) = omega (arith, t .0) in
+    imprints-laid-on (a .n) (a .borders .now) (a .imprints .now) (a .dictionary .now) h place (t .1) (take 496 (drop 12 (a .block .now))) (block-payload (a .block .now) (s .pre)) (c .before .before .lay-halves .ensures)
+
+in-dictionary-requires : tie.Need-in-dictionary-requires
+in-dictionary-requires c κs = search needs
+
+sub-lay-words : tie.Need-sub-lay-words
+sub-lay-words c = omega (arith, (c .before .before .in-dictionary .ensures (c .before .if2 .taken)) .0)
+
+sub-lay-words-2 : tie.Need-sub-lay-words-2
+sub-lay-words-2 c = omega (arith, (c .before .before .in-dictionary .ensures (c .before .if2 .taken)) .0)
+
+mul-lay-words : tie.Need-mul-lay-words
+mul-lay-words c = search needs
+
+sub-lay-words-3 : tie.Need-sub-lay-words-3
+sub-lay-words-3 c = omega (arith, (c .before .before .in-dictionary .ensures (c .before .if2 .taken)) .0)
+
+lay-words-requires : tie.Need-lay-words-requires
+lay-words-requires c κs =
+    let t = c .before .before .in-dictionary .ensures (c .before .if2 .taken) in
+    let s = c .before .before .before .before .before .before .before .before in
+    omega (arith, t .0, t .1, s .pre)
+
+same-length-2 : tie.Need-same-length-2
+same-length-2 c = search needs
+
+returns-2 : tie.Need-returns-2
+returns-2 c =
+    let s = c .before .before .before .before .before .before .before .before .before .before .before in
+    let a = s .args in
+    let t = c .before .before .before .before .before .in-dictionary .ensures (c .before .before .before .before .if2 .taken) in
+    let d = 124 * a .n - 4 - length (a .borders .now) - 2 * length (a .imprints .now) in
+    let place : 124 * a .n ≡ 4 + (length (a .borders .now) + (2 * length (a .imprints .now) + d)) = omega (arith, t .0) in
+    words-laid-on (a .n) (a .borders .now) (a .imprints .now) (a .dictionary .now) d place (t .1) (take 496 (drop 12 (a .block .now))) (block-payload (a .block .now) (s .pre)) (c .before .before .lay-words .ensures)
+
+lay-units-requires : tie.Need-lay-units-requires
+lay-units-requires c κs = search needs
+
+same-length-3 : tie.Need-same-length-3
+same-length-3 c = search needs
+
+same-length-4 : tie.Need-same-length-4
+same-length-4 c = search needs
+
+same-length-5 : tie.Need-same-length-5
+same-length-5 c = search needs
+
+returns-3 : tie.Need-returns-3
+returns-3 c = search needs
 
 pub lay-payload-spec : {M : Type 1} → statement M
 lay-payload-spec =
     tie.close
     (tie.spec
-    Inv-loop
-    μ-loop
     mul-first
-    loop-holds
-    mul-number-at
-    add-number-at
-    number-at-requires
-    add-lay-unit
-    lay-unit-requires
-    add-i
-    loop-less
-    loop-again
+    in-imprints-requires
+    sub-lay-halves
+    sub-lay-halves-2
+    lay-halves-requires
     same-length
+    returns
+    in-dictionary-requires
+    sub-lay-words
+    sub-lay-words-2
+    mul-lay-words
+    sub-lay-words-3
+    lay-words-requires
     same-length-2
+    returns-2
+    lay-units-requires
     same-length-3
-    returns)
+    same-length-4
+    same-length-5
+    returns-3)
