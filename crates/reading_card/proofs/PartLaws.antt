@@ -100,22 +100,23 @@ module _ (h i : ℕ) (is : List ℕ) where
   pub half-laid : (p is′ : List ℕ) (u : ℕ) → bytes 4 u ≡ take 4 (drop (4 * i) p) → Lays-half (h + i) u is is′ → Laid-on 8 h p i is (i + 1) is′
   half-laid p is′ u e o = laid-turn 8 (omega arith) h i (i + 1) (bytes 4 u) (omega arith) (bytes-are 4 u) is p is′ e o
 
-  module _ (even : (h + i) % 2 ≡ 0) (within : (h + i) / 2 < length is) where
-    pub pair-put : (b b′ b″ : List ℕ) (lo hi : ℕ) → i < 123 → getD is ((h + i) / 2) 0 < 256 ^ 8 → lo ≡ getD is ((h + i) / 2) 0 % 256 ^ 4 → hi ≡ getD is ((h + i) / 2) 0 / 256 ^ 4 → b′ ≡ sets b (12 + 4 * i) (bytes 4 lo) → b″ ≡ sets b′ (16 + 4 * i) (bytes 4 hi) → Put-on 8 h is i b (i + 2) b″
-    pair-put b b′ b″ lo hi l fits e f s t =
-        let x = getD is ((h + i) / 2) 0 in
-        let w : bytes 4 lo ++ bytes 4 hi ≡ bytes 8 x = ap₂ (λ (m n : ℕ). bytes 4 m ++ bytes 4 n) e f ∙ ap (λ (y : List ℕ). y ++ bytes 4 (x / 256 ^ 4)) (bytes-low 4 x) ∙ sym (bytes-add 4 4 x) in
-        let n : 16 + 4 * i ≡ 12 + 4 * i + 4 = omega arith in
-        let both-put : b″ ≡ sets b (12 + 4 * i) (bytes 8 x) = t ∙ ap₂ (λ (y : List ℕ) (a : ℕ). sets y a (bytes 4 hi)) s n ∙ sym (sets-append (bytes 4 lo) (bytes 4 hi) b (12 + 4 * i)) ∙ ap (sets b (12 + 4 * i)) w in
-        put-turn 8 (omega arith) h i (i + 2) (bytes 8 x) (omega arith) (bytes-are 8 x) is b b″ (sym (own-bytes 8 h 8 0 ((h + i) / 2) is i (omega arith) within (omega (arith, even)) (omega (arith, l)))) both-put (λ q. sym (sym (whole-set 8 (bytes 8 x) ((h + i) / 2) is q (q + 4 * (h + i)) (omega arith) refl within (omega (arith, even))) ∙ ap (set is ((h + i) / 2)) (number-bytes 8 x fits) ∙ set-getD is ((h + i) / 2) 0))
+-- imprint j, whole, at units i and i + 1
+module _ (h i j m : ℕ) (is : List ℕ) (place : h + i ≡ 2 * j) (next : m ≡ i + 2) (within : j < length is) where
+  pub pair-put : (b b′ b″ : List ℕ) (lo hi : ℕ) → i < 123 → getD is j 0 < 256 ^ 8 → lo ≡ getD is j 0 % 256 ^ 4 → hi ≡ getD is j 0 / 256 ^ 4 → b′ ≡ sets b (12 + 4 * i) (bytes 4 lo) → b″ ≡ sets b′ (16 + 4 * i) (bytes 4 hi) → Put-on 8 h is i b m b″
+  pair-put b b′ b″ lo hi l fits e f s t =
+      let x = getD is j 0 in
+      let w : bytes 4 lo ++ bytes 4 hi ≡ bytes 8 x = ap₂ (λ (m n : ℕ). bytes 4 m ++ bytes 4 n) e f ∙ ap (λ (y : List ℕ). y ++ bytes 4 (x / 256 ^ 4)) (bytes-low 4 x) ∙ sym (bytes-add 4 4 x) in
+      let n : 16 + 4 * i ≡ 12 + 4 * i + 4 = omega arith in
+      let both-put : b″ ≡ sets b (12 + 4 * i) (bytes 8 x) = t ∙ ap₂ (λ (y : List ℕ) (a : ℕ). sets y a (bytes 4 hi)) s n ∙ sym (sets-append (bytes 4 lo) (bytes 4 hi) b (12 + 4 * i)) ∙ ap (sets b (12 + 4 * i)) w in
+      put-turn 8 (omega arith) h i m (bytes 8 x) (omega (arith, next)) (bytes-are 8 x) is b b″ (sym (own-bytes 8 h 8 0 j is i (omega arith) within (omega (arith, place)) (omega (arith, l)))) both-put (λ q. sym (sym (whole-set 8 (bytes 8 x) j is q (q + 4 * (h + i)) (omega arith) refl within (omega (arith, place))) ∙ ap (set is j) (number-bytes 8 x fits) ∙ set-getD is j 0))
 
-    pub pair-laid : (p : List ℕ) (lo hi y : ℕ) → i < 123 → lo < 256 ^ 4 → hi < 256 ^ 4 → bytes 4 lo ≡ take 4 (drop (4 * i) p) → bytes 4 hi ≡ take 4 (drop (4 * (i + 1)) p) → y ≡ lo + 256 ^ 4 * hi → Laid-on 8 h p i is (i + 2) (set is ((h + i) / 2) y)
-    pair-laid p lo hi y l f g e d s =
-        let w = bytes 4 lo ++ bytes 4 hi in
-        let v : y ≡ number w = s ∙ sym (number-append (bytes 4 lo) (bytes 4 hi) ∙ ap₂ (λ (m n : ℕ). m + 256 ^ 4 * n) (number-bytes 4 lo f) (number-bytes 4 hi g)) in
-        let r : drop (4 * i) p ≡ bytes 4 lo ++ drop (4 * (i + 1)) p = split-rest p (bytes 4 lo) i (i + 1) (omega arith) e in
-        let t : w ≡ take 8 (drop (4 * i) p) = ap (λ (z : List ℕ). bytes 4 lo ++ z) d ∙ sym (ap (take 8) r) in
-        laid-turn 8 (omega arith) h i (i + 2) w (omega arith) (every-append (λ x. ltb x 256) (bytes 4 lo) (bytes 4 hi) ∙ both (all-bytes (bytes 4 lo)) (all-bytes (bytes 4 hi)) (bytes-are 4 lo) (bytes-are 4 hi)) is p (set is ((h + i) / 2) y) t (λ q. ap (set is ((h + i) / 2)) v ∙ whole-set 8 w ((h + i) / 2) is q (q + 4 * (h + i)) (omega arith) refl within (omega (arith, even)))
+  pub pair-laid : (p : List ℕ) (lo hi y : ℕ) → lo < 256 ^ 4 → hi < 256 ^ 4 → bytes 4 lo ≡ take 4 (drop (4 * i) p) → bytes 4 hi ≡ take 4 (drop (4 * (i + 1)) p) → y ≡ lo + 256 ^ 4 * hi → Laid-on 8 h p i is m (set is j y)
+  pair-laid p lo hi y f g e d s =
+      let w = bytes 4 lo ++ bytes 4 hi in
+      let v : y ≡ number w = s ∙ sym (number-append (bytes 4 lo) (bytes 4 hi) ∙ ap₂ (λ (m n : ℕ). m + 256 ^ 4 * n) (number-bytes 4 lo f) (number-bytes 4 hi g)) in
+      let r : drop (4 * i) p ≡ bytes 4 lo ++ drop (4 * (i + 1)) p = split-rest p (bytes 4 lo) i (i + 1) (omega arith) e in
+      let t : w ≡ take 8 (drop (4 * i) p) = ap (λ (z : List ℕ). bytes 4 lo ++ z) d ∙ sym (ap (take 8) r) in
+      laid-turn 8 (omega arith) h i m w (omega (arith, next)) (every-append (λ x. ltb x 256) (bytes 4 lo) (bytes 4 hi) ∙ both (all-bytes (bytes 4 lo)) (all-bytes (bytes 4 hi)) (bytes-are 4 lo) (bytes-are 4 hi)) is p (set is j y) t (λ q. ap (set is j) v ∙ whole-set 8 w j is q (q + 4 * (h + i)) (omega arith) refl within (omega (arith, place)))
 
 -- ---- the dictionary
 

@@ -189,12 +189,14 @@ fn fill_whole(block: &mut [u8], imprints: &[u64], h: usize, from: usize)
     requires { ⌜ (length (now block) ≡ 512) × (h < 2 ^ 40) × (from ≤ 1) × ((h + from) % 2 ≡ 0) × ((h + 123) / 2 < length (now imprints)) ⌝ }
     ensures { λ _. ⌜ Put-on 8 h (now (imprints .entry)) from (now (block .entry)) (124 - from) (now (block .exit)) ⌝ }
 {
-    let mut i = from;
-    while i < 123 {
-        let x = imprints[(h + i) / 2];
+    let first = (h + from) / 2;
+    let mut t: usize = 0;
+    while t < 62 - from {
+        let i = from + 2 * t;
+        let x = imprints[first + t];
         card_block::put_number(&mut *block, 12 + 4 * i, low_of(x));
         card_block::put_number(&mut *block, 16 + 4 * i, high_of(x));
-        i += 2;
+        t += 1;
     }
 }
 
@@ -295,12 +297,14 @@ fn lay_whole(block: &[u8], imprints: &mut [u64], h: usize, from: usize)
     requires { ⌜ (length (now block) ≡ 512) × (h < 2 ^ 40) × (from ≤ 1) × ((h + from) % 2 ≡ 0) × ((h + 123) / 2 < length (now imprints)) ⌝ }
     ensures { λ _. ⌜ Laid-on 8 h (take 496 (drop 12 (now (block .entry)))) from (now (imprints .entry)) (124 - from) (now (imprints .exit)) ⌝ }
 {
-    let mut i = from;
-    while i < 123 {
+    let first = (h + from) / 2;
+    let mut t: usize = 0;
+    while t < 62 - from {
+        let i = from + 2 * t;
         let low = card_block::number_at(block, 12 + 4 * i);
         let high = card_block::number_at(block, 16 + 4 * i);
-        imprints[(h + i) / 2] = wide(low) + 4294967296 * wide(high);
-        i += 2;
+        imprints[first + t] = wide(low) + 4294967296 * wide(high);
+        t += 1;
     }
 }
 

@@ -1,6 +1,6 @@
 -- `reading_card::units::fill_whole` meets its contract: the imprints still to come fix every byte. Assumes nothing.
 use Prim.Native.Nat.{ℕ, _+_, _-_, _*_, _/_, _%_, _^_, _<_, _≤_}
-use mathlib.Core.Path.{_≡_, _∙_, ap, subst}
+use mathlib.Core.Path.{_≡_, refl, _∙_, ap, subst}
 use native.Mathlib.Omega.{arith}
 use lib.ListN.{length, getD}
 use lib.Seq.{length-sets}
@@ -12,15 +12,29 @@ use Rattle.reading_card.proofs.units.fill_whole.Statement.{statement}
 use Rattle.reading_card.proofs.units.fill_whole.Tie as tie
 
 abbrev Inv-loop : tie.InvT-loop
-Inv-loop block₀ imprints h from i₀ block i = (i + from ≤ 124) × ((h + i) % 2 ≡ 0) × (length block ≡ 512) × Put-on 8 h imprints from block₀ i block
+Inv-loop block₀ imprints h from first t₀ block t = (t + from ≤ 62) × (first ≡ (h + from) / 2) × (length block ≡ 512) × Put-on 8 h imprints from block₀ (from + 2 * t) block
 
 abbrev μ-loop : tie.MeasureT-loop
-μ-loop block₀ imprints h from i₀ block i = 124 - i
+μ-loop block₀ imprints h from first t₀ block t = 62 - t
+
+add-first : tie.Need-add-first Inv-loop μ-loop
+add-first c = search needs
 
 loop-holds : tie.Need-loop-holds Inv-loop μ-loop
 loop-holds c =
     let s = c .before .before in
-    (omega (arith, s .pre .2), s .pre .3, s .pre .0, put-none (s .args .from) (s .args .block .now))
+    let a = s .args in
+    let e : a .from ≡ a .from + 2 * 0 = omega arith in
+    (omega (arith, s .pre .2), refl, s .pre .0, subst (λ (n : ℕ). Put-on 8 (a .h) (a .imprints .now) (a .from) (a .block .now) n (a .block .now)) e (put-none (a .from) (a .block .now)))
+
+sub-loop : tie.Need-sub-loop Inv-loop μ-loop
+sub-loop c = search needs
+
+mul-i : tie.Need-mul-i Inv-loop μ-loop
+mul-i c = search needs
+
+add-i : tie.Need-add-i Inv-loop μ-loop
+add-i c = search needs
 
 add-x : tie.Need-add-x Inv-loop μ-loop
 add-x c = search needs
@@ -55,8 +69,8 @@ high-of-requires c κs = search needs
 put-number-requires-2 : tie.Need-put-number-requires-2 Inv-loop μ-loop
 put-number-requires-2 c κs = search needs
 
-add-i : tie.Need-add-i Inv-loop μ-loop
-add-i c = search needs
+add-t : tie.Need-add-t Inv-loop μ-loop
+add-t c = search needs
 
 loop-less : tie.Need-loop-less Inv-loop μ-loop
 loop-less c = search needs
@@ -71,8 +85,9 @@ loop-again c =
     let p = c .before .before .before .before .before .before .before .put-number in
     let hi = c .before .before .before .high-of in
     let r = c .before .before .put-number2 in
-    let j = (a .h + l .i) / 2 in
-    (omega (arith, less, l .inv .0, l .inv .1, s .pre .2, s .pre .3), omega (arith, l .inv .1), ap length (r .ensures) ∙ length-sets (p .last .0) (16 + 4 * l .i) (bytes 4 (hi .result)) ∙ ap length (p .ensures) ∙ length-sets (l .block) (12 + 4 * l .i) (bytes 4 (lo .result)) ∙ l .inv .2, put-then (l .inv .3) (pair-put (a .h) (l .i) (a .imprints .now) (l .inv .1) (omega (arith, less, s .pre .4)) (l .block) (p .last .0) (r .last .0) (lo .result) (hi .result) less (c .before .before .before .before .before .before .before .before .before .before .shared-slice-known2 .given j .fits) (lo .ensures) (hi .ensures) (p .ensures) (r .ensures)))
+    let i = a .from + 2 * l .t in
+    let j = (a .h + a .from) / 2 + l .t in
+    (omega (arith, less), refl, ap length (r .ensures) ∙ length-sets (p .last .0) (16 + 4 * i) (bytes 4 (hi .result)) ∙ ap length (p .ensures) ∙ length-sets (l .block) (12 + 4 * i) (bytes 4 (lo .result)) ∙ l .inv .2, put-then (l .inv .3) (pair-put (a .h) i j (a .from + 2 * (l .t + 1)) (a .imprints .now) (omega (arith, s .pre .3)) (omega arith) (omega (arith, less, s .pre .2, s .pre .3, s .pre .4)) (l .block) (p .last .0) (r .last .0) (lo .result) (hi .result) (omega (arith, less, s .pre .2)) (c .before .before .before .before .before .before .before .before .before .before .shared-slice-known2 .given j .fits) (lo .ensures) (hi .ensures) (p .ensures) (r .ensures)))
 
 same-length : tie.Need-same-length Inv-loop μ-loop
 same-length c = search needs
@@ -82,7 +97,7 @@ returns c =
     let s = c .before .before .before .before in
     let a = s .args in
     let l = c .before .loop in
-    let e : l .i ≡ 124 - a .from = omega (arith, l .inv .0, l .inv .1, s .pre .2, s .pre .3, c .loop-test .left) in
+    let e : a .from + 2 * l .t ≡ 124 - a .from = omega (arith, l .inv .0, s .pre .2, c .loop-test .left) in
     subst (λ (n : ℕ). Put-on 8 (a .h) (a .imprints .now) (a .from) (a .block .now) n (l .block)) e (l .inv .3)
 
 pub fill-whole-spec : {M : Type 1} → statement M
@@ -91,7 +106,11 @@ fill-whole-spec =
     (tie.spec
     Inv-loop
     μ-loop
+    add-first
     loop-holds
+    sub-loop
+    mul-i
+    add-i
     add-x
     mul-x
     shared-slice-read-x
@@ -103,7 +122,7 @@ fill-whole-spec =
     add-put-number-2
     high-of-requires
     put-number-requires-2
-    add-i
+    add-t
     loop-less
     loop-again
     same-length
