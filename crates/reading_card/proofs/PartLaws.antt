@@ -1,18 +1,17 @@
 -- A block that lies wholly in the imprints, or wholly in the dictionary: its units put and laid. Assumes nothing.
-use Prim.Native.Nat.{ℕ, zero, suc, _+_, _-_, _*_, _/_, _%_, _^_, _<_, _≤_}
+use Prim.Native.Nat.{ℕ, _+_, _*_, _/_, _%_, _^_, _<_, _≤_}
 use mathlib.Core.Path.{_≡_, refl, sym, _∙_, ap, ap₂, subst}
 use mathlib.Core.List.{List, [], _∷_, _++_, append-nil}
 use mathlib.Core.Bool.{true}
 use native.Mathlib.Omega.{arith}
 use lib.Dec.{ltb}
 use lib.IntN.{ℤ}
-use lib.ListN.{length, getD, set, take, drop, length-append, length-take, length-drop, take-append-drop, drop-of-length-le}
+use lib.ListN.{length, getD, set, take, drop, length-take, length-drop, take-append-drop, drop-of-length-le}
 use lib.Seq.{sets, set-getD, drop-drop, length-take-le}
-use Rattle.words.specs.Lists.{every}
 use Rattle.words.specs.Bytes.{bytes, number, spelt}
 use Rattle.words.proofs.ListLaws.{every-append, sets-append}
 use Rattle.words.proofs.ByteLaws.{all-bytes, both, length-bytes, length-spelt, bytes-are, bytes-low, bytes-add, number-bytes, number-append, spelt-at}
-use Rattle.card_image.specs.Image.{first-edition, index-words, payload, part}
+use Rattle.card_image.specs.Image.{first-edition, index-words, payload}
 use Rattle.card_image.proofs.ImageLaws.{length-payload}
 use Rattle.card_reader.specs.Reader.{relaid-words}
 use Rattle.card_reader.proofs.OverLaws.{overlaid-exact}

@@ -1,8 +1,8 @@
 -- `reading_card::units::fill_whole` meets its contract: the imprints still to come fix every byte. Assumes nothing.
-use Prim.Native.Nat.{ℕ, _+_, _-_, _*_, _/_, _%_, _^_, _<_, _≤_}
+use Prim.Native.Nat.{ℕ, _+_, _-_, _*_, _/_, _≤_}
 use mathlib.Core.Path.{_≡_, refl, _∙_, ap, subst}
 use native.Mathlib.Omega.{arith}
-use lib.ListN.{length, getD}
+use lib.ListN.{length}
 use lib.Seq.{length-sets}
 use Rattle.words.specs.Bytes.{bytes}
 use Rattle.reading_card.specs.loops.Lays.{Put-on}
