@@ -20,7 +20,7 @@ use Rattle.card_image.specs.Promise.{index-check, write-after, write-answer, Wr
 use Rattle.card_image.specs.declared.WriteAnswer.the-variants as writing
 use Rattle.card_image.proofs.ImageLaws.{length-payload, length-part, part-fits, image-length}
 use Rattle.card_image.proofs.FineLaws.{fine-few}
-use Rattle.reading_card.specs.loops.Lays.{padded}
+use Rattle.reading_units.specs.loops.Lays.{padded}
 
 -- ---- a payload p laid into a block, filled up with zeros
 

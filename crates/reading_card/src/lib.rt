@@ -1,6 +1,4 @@
 // An index of readings on the card: block by block, each with its own check. Nothing is written before the index is accepted and the card is long enough.
-pub mod units; // units.rt: the words of an index in units of four bytes, and back
-
 use card_image::WriteAnswer;
 use column_index::IndexCheck;
 ghost use mathlib.Core.Path.{_≡_};
@@ -50,7 +48,7 @@ fn put_block(
     requires { ⌜ (length (now block) ≡ 512) × (length (now borders) ≤ 63) × (length (now imprints) < 2 ^ 32) × (length (now dictionary) < 2 ^ 32) ⌝ }
     ensures { λ _. ⌜ now (block .exit) ≡ whole 1 n (part n (payload first-edition rows (index-words (now (borders .entry)) (now (imprints .entry)) (now (dictionary .entry))))) ⌝ }
 {
-    units::fill_payload(&mut *block, n, rows, borders, imprints, dictionary);
+    reading_units::fill_payload(&mut *block, n, rows, borders, imprints, dictionary);
     let total = payload_length(borders.len(), imprints.len(), dictionary.len());
     let len = part_length(total, n);
     card_block::close_block(block, EDITION, n, len);

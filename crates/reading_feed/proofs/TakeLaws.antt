@@ -34,8 +34,8 @@ use Rattle.card_reader.specs.declared.FeedAnswer.the-variants as feeding
 use Rattle.card_reader.proofs.OverLaws.{over-before, over-in}
 use Rattle.card_reader.proofs.RelaidLaws.{is-reached, not-reached-before}
 use Rattle.card_reader.proofs.LaidLaws.{words-same}
-use Rattle.reading_card.specs.loops.Lays.{Lays, padded}
-use Rattle.reading_card.proofs.LaysLaws.{borders-long, imprints-long, dictionary-long, lays-again}
+use Rattle.reading_units.specs.loops.Lays.{Lays, padded}
+use Rattle.reading_units.proofs.LaysLaws.{borders-long, imprints-long, dictionary-long, lays-again}
 use Rattle.reading_feed.specs.loops.Takes.{Takable, Holds, Takes}
 
 -- ---- bytes laid past the end of the words change nothing, whatever they are

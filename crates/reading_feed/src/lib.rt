@@ -2,7 +2,6 @@
 use card_reader::FeedAnswer;
 use card_reader::Reader;
 use column_index::IndexCheck;
-use reading_card::units;
 ghost use mathlib.Core.Path.{_≡_};
 ghost use Prim.Native.Nat.{_^_, _<_, min};
 ghost use mathlib.Core.Bool.{true};
@@ -138,14 +137,14 @@ fn take_or_put_back(
     ensures { λ r. ⌜ Takes (now (block .entry)) reader (index-words (now (borders .entry)) (now (imprints .entry)) (now (dictionary .entry))) r (index-words (now (borders .exit)) (now (imprints .exit)) (now (dictionary .exit))) ⌝ }
 {
     let n = reader.due as u32;
-    units::lay_payload(block, n, &mut *borders, &mut *imprints, &mut *dictionary);
+    reading_units::lay_payload(block, n, &mut *borders, &mut *imprints, &mut *dictionary);
     let rows = reader.rows;
     let check = reading_index::checked_rows(rows as usize, &*borders, &*imprints, &*dictionary);
     let answer = ended_after(check, onward(reader));
     if let IndexCheck::Fine = check {
         return answer;
     }
-    units::lay_payload(held, n, borders, imprints, dictionary);
+    reading_units::lay_payload(held, n, borders, imprints, dictionary);
     answer
 }
 
@@ -161,7 +160,7 @@ fn take_last(
     ensures { λ r. ⌜ Takes (now (block .entry)) reader (index-words (now (borders .entry)) (now (imprints .entry)) (now (dictionary .entry))) r (index-words (now (borders .exit)) (now (imprints .exit)) (now (dictionary .exit))) ⌝ }
 {
     let mut held = [0u8; 512];
-    units::fill_payload(
+    reading_units::fill_payload(
         &mut held,
         reader.due as u32,
         reader.rows,
@@ -186,7 +185,7 @@ fn take_in(
     if left_of(reader) <= 496 {
         return take_last(block, reader, borders, imprints, dictionary);
     }
-    units::lay_payload(block, reader.due as u32, borders, imprints, dictionary);
+    reading_units::lay_payload(block, reader.due as u32, borders, imprints, dictionary);
     FeedAnswer::More(onward(reader))
 }
 

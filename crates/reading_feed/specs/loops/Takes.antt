@@ -13,7 +13,7 @@ use Rattle.card_reader.specs.Promise.{feed-number, ended-after}
 use Rattle.card_reader.specs.declared.Reader.{Reader}
 use Rattle.card_reader.specs.declared.FeedAnswer.{FeedAnswer}
 use Rattle.card_reader.specs.declared.FeedAnswer.the-variants as feeding
-use Rattle.reading_card.specs.loops.Lays.{Lays}
+use Rattle.reading_units.specs.loops.Lays.{Lays}
 
 -- b is the block due, and w are as many words as the header counts
 pub record Takable (b : List ℕ) (s : Reader) (w : Words) : Type 0 where
