@@ -141,7 +141,8 @@ struct mgz_registered {
 /* An index on the card is an image of whole blocks: number from 0 (4 bytes), edition (4), payload length (2), two zero bytes, payload
  * filled up with zeros, check (4), low byte first throughout. The check is two sums over the bytes before it, as two-byte numbers x:
  * a = a + x and b = b + a, both from 0 and modulo 65535. All blocks but the last are full. Together the payloads are the row count, the
- * numbers of borders, imprints and dictionary words (4 bytes each), and these: imprints in 8 bytes, the others in 4. */
+ * numbers of borders, imprints and dictionary words (4 bytes each), and these: imprints in 8 bytes, the others in 4.
+ * One changed byte of a block is always noticed. The sums can't tell a two-byte number 0 from 65535: that change is not, by the check. */
 #define MGZ_CARD_BLOCK 512
 #define MGZ_CARD_PAYLOAD 496
 #define MGZ_CARD_EDITION 1

@@ -5,6 +5,8 @@
 //! b = b + a, both from 0 and modulo 65,535. All blocks but the last are full. Together the payloads are the row count, the numbers of
 //! borders, imprints and dictionary words (4 bytes each), and these: imprints in 8 bytes, the others in 4. One index has one image.
 //!
+//! One changed byte of a block is always noticed. The sums can't tell a two-byte number 0 from 65,535: that change is not, by the check.
+//!
 //! ```
 //! use miguzoryane::{card, Error, IndexBuf};
 //!
