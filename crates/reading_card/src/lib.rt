@@ -9,9 +9,6 @@ ghost use Rattle.card_block.specs.Block.{block as whole};
 ghost use Rattle.card_image.specs.Image.{first-edition, index-words, payload, part, image};
 ghost use Rattle.card_image.specs.Promise.{Writes};
 
-// The edition of a card with an index of readings.
-pub const EDITION: u32 = 1;
-
 // How many bytes the payload of an index with so many words has.
 fn payload_length(borders: usize, imprints: usize, dictionary: usize) -> usize
     requires { ⌜ (borders ≤ 63) × (imprints < 2 ^ 32) × (dictionary < 2 ^ 32) ⌝ }
@@ -51,7 +48,7 @@ fn put_block(
     reading_units::fill_payload(&mut *block, n, rows, borders, imprints, dictionary);
     let total = payload_length(borders.len(), imprints.len(), dictionary.len());
     let len = part_length(total, n);
-    card_block::close_block(block, EDITION, n, len);
+    card_block::close_block(block, reading_units::EDITION, n, len);
 }
 
 // The image of an index that makes so many blocks, in exactly its own bytes.

@@ -203,7 +203,7 @@ pub fn feed(
     if !card_block::is_sound(block) {
         return FeedAnswer::BadBlock(due);
     }
-    if card_block::edition_of(block) != reading_card::EDITION {
+    if card_block::edition_of(block) != reading_units::EDITION {
         return FeedAnswer::OtherEdition(due);
     }
     let told = known(block, reader);

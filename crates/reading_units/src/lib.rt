@@ -9,6 +9,9 @@ ghost use Rattle.words.specs.Bytes.{bytes, number as number-in};
 ghost use Rattle.card_image.specs.Image.{first-edition, index-words, payload};
 ghost use Rattle.reading_units.specs.loops.Lays.{Lays, Lays-half, Laid-on, Put-on, padded, Are-bytes};
 
+// The edition of a card with an index of readings.
+pub const EDITION: u32 = 1;
+
 fn wide(u: u32) -> u64
     ensures { λ r. ⌜ r ≡ u ⌝ }
 {
