@@ -83,11 +83,6 @@ sound-block e n p h =
     let c : same (check (take 508 (block e n p))) (drop 508 (block e n p)) ≡ true = ap₂ (λ (x y : List ℕ). same (check x) y) (front-of-block e n p h) (check-of-block e n p h) ∙ same-refl (check (front e n p)) in
     both _ _ (eq-eqb (length (block e n p)) 512 (block-length e n p h)) c
 
--- blocks that are the same are of the same number and payload
-pub block-same : (e e' n n' : ℕ) (p p' : List ℕ) → length p ≤ 496 → length p' ≤ 496 → n < 256 ^ 4 → n' < 256 ^ 4 → block e n p ≡ block e' n' p' → (n ≡ n') × (p ≡ p')
-block-same e e' n n' p p' h h' g g' q =
-    (sym (number-of-block e n p g) ∙ ap number-of q ∙ number-of-block e' n' p' g', sym (payload-of-block e n p h) ∙ ap payload-of q ∙ payload-of-block e' n' p' h')
-
 -- ---- bytes that are fed
 
 pub sound-length : (b : List ℕ) → sound b ≡ true → length b ≡ 512

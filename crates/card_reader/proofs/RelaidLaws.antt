@@ -29,9 +29,6 @@ by-false : (t : Bool) → (t ≡ true → ⊥) → t ≡ false
 by-false true h = absurd (h refl)
 by-false false h = refl
 
-pub not-reached-none : (k at q : ℕ) → reached k at [] q ≡ false
-not-reached-none k at q = refl
-
 pub not-reached-before : (k at : ℕ) (p : List ℕ) (q : ℕ) → q + k ≤ at → reached k at p q ≡ false
 not-reached-before k at p q h = by-false (reached k at p q) (λ r. let s = reached-is k at p q r in absurd (omega (arith, h, s .2)))
 

@@ -17,10 +17,6 @@ use Rattle.card_reader.proofs.RelaidLaws.{length-relaid, relaid-none, relaid-be
 use Rattle.card_reader.proofs.UnitLaws.{whole-laid, low-laid, high-laid}
 use Rattle.reading_units.specs.loops.Lays.{Lays, Lays-half}
 
--- the number of a word is the word
-itself : ℕ → ℕ
-itself x = x
-
 -- ---- a laying of any length
 
 pub lays-none : (at : ℕ) (bs : List ℤ) (is ds : List ℕ) → Lays at [] bs is ds bs is ds

@@ -20,7 +20,7 @@ use Rattle.card_reader.proofs.UnitLaws.{relaid-in}
 use Rattle.reading_units.specs.loops.Lays.{Lays, Lays-half, Laid-on, Put-on, own, padded}
 use Rattle.reading_units.proofs.LaysLaws.{lays-imprints, lays-dictionary}
 use Rattle.reading_units.proofs.ToldLaws.{told-imprints, told-words}
-use Rattle.reading_units.proofs.TurnLaws.{drop-take, padded-full}
+use Rattle.reading_units.proofs.TurnLaws.{front-bytes, padded-full}
 
 -- ---- some units, then the rest
 
@@ -81,7 +81,7 @@ module _ {k c : ℕ} where
 own-bytes : (k c m o j : ℕ) (ws : List ℕ) (i : ℕ) → o + m ≤ k → j < length ws → 4 * (c + i) ≡ k * j + o → 4 * i + m ≤ 496 → take m (drop (4 * i) (own k c ws)) ≡ take m (drop o (bytes k (getD ws j 0)))
 own-bytes k c m o j ws i inside within place h =
     let n : 4 * c + 4 * i ≡ k * j + o = omega (arith, place) in
-    drop-take m (4 * i) 496 (drop (4 * c) (spelt k ws)) h
+    front-bytes m (4 * i) 496 (drop (4 * c) (spelt k ws)) h
     ∙ ap (take m) (drop-drop (4 * i) (4 * c) (spelt k ws) ∙ ap₂ (λ (x : ℕ) (l : List ℕ). drop x l) n (sym (append-nil (spelt k ws))))
     ∙ spelt-at k m o ws [] j inside within
 

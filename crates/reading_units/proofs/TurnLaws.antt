@@ -11,7 +11,7 @@ use lib.Seq.{take-add, take-all, length-take-le, drop-drop, drop-append-le, drop
 use borrow.Author.Tests.{ltb-true, ltb-false}
 use Rattle.words.specs.Lists.{every}
 use Rattle.words.specs.Bytes.{bytes, number}
-use Rattle.words.proofs.ListLaws.{every-append, sets-append, both, every-take, every-drop}
+use Rattle.words.proofs.ListLaws.{every-append, sets-append, both, every-take, every-drop, drop-take}
 use Rattle.words.proofs.ByteLaws.{all-bytes, bytes-are, bytes-number}
 use Rattle.card_image.specs.Image.{part}
 use Rattle.card_image.proofs.ImageLaws.{length-part, part-fits}
@@ -45,15 +45,14 @@ module _ {at : ℕ} {p : List ℕ} {i : ℕ} {bs bs′ : List ℤ} {is ds is′ 
       (subst (λ (b : List ℕ). Lays at b bs is ds bs′ is′ ds′) t (l .so-far), ap all-bytes (sym t) ∙ l .are)
 
 -- bytes within the first k
-pub drop-take : (a m k : ℕ) (l : List ℕ) → m + a ≤ k → take a (drop m (take k l)) ≡ take a (drop m l)
-drop-take a zero k l h = take-take a k l (omega (arith, h))
-drop-take a (suc m) zero l h = absurd (omega (arith, h))
-drop-take a (suc m) (suc k) [] h = refl
-drop-take a (suc m) (suc k) (x ∷ l) h = drop-take a m k l (omega (arith, h))
+pub front-bytes : (a m k : ℕ) (l : List ℕ) → m + a ≤ k → take a (drop m (take k l)) ≡ take a (drop m l)
+front-bytes a m k l h =
+    let e : k ≡ m + (k - m) = omega (arith, h) in
+    ap (λ (j : ℕ). take a (drop m (take j l))) e ∙ ap (take a) (drop-take m (k - m) l) ∙ take-take a (k - m) (drop m l) (omega (arith, h))
 
 -- a unit of the payload and the filler that stand in a block
 pub unit-in-block : (b : List ℕ) (i : ℕ) → i < 124 → take 4 (drop (12 + 4 * i) b) ≡ take 4 (drop (4 * i) (take 496 (drop 12 b)))
-unit-in-block b i h = sym (drop-take 4 (4 * i) 496 (drop 12 b) (omega (arith, h)) ∙ ap (take 4) (drop-drop (4 * i) 12 b))
+unit-in-block b i h = sym (front-bytes 4 (4 * i) 496 (drop 12 b) (omega (arith, h)) ∙ ap (take 4) (drop-drop (4 * i) 12 b))
 
 pub block-payload : (b : List ℕ) → length b ≡ 512 → length (take 496 (drop 12 b)) ≡ 496
 block-payload b l = length-take-le 496 (drop 12 b) (omega (arith, l, length-drop 12 b))
@@ -100,7 +99,7 @@ module _ (n : ℕ) (p : List ℕ) (are : all-bytes p ≡ true) (fours : length p
       go true t =
           let b = ltb-true (4 * i) (length (part n p)) t in
           let inside : 4 * i + 4 ≤ length (part n p) = omega (arith, b, long, fours, h) in
-          let there : take 4 (drop (4 * i) (padded n p)) ≡ take 4 (drop (4 * (124 * n + i)) p) = ap (take 4) (drop-append-le (4 * i) (part n p) z (omega (arith, inside))) ∙ take-append-le 4 (drop (4 * i) (part n p)) z (omega (arith, inside, length-drop (4 * i) (part n p))) ∙ drop-take 4 (4 * i) 496 (drop (496 * n) p) (omega (arith, h)) ∙ ap (take 4) (drop-drop (4 * i) (496 * n) p ∙ ap (λ (m : ℕ). drop m p) (sym place)) in
+          let there : take 4 (drop (4 * i) (padded n p)) ≡ take 4 (drop (4 * (124 * n + i)) p) = ap (take 4) (drop-append-le (4 * i) (part n p) z (omega (arith, inside))) ∙ take-append-le 4 (drop (4 * i) (part n p)) z (omega (arith, inside, length-drop (4 * i) (part n p))) ∙ front-bytes 4 (4 * i) 496 (drop (496 * n) p) (omega (arith, h)) ∙ ap (take 4) (drop-drop (4 * i) (496 * n) p ∙ ap (λ (m : ℕ). drop m p) (sym place)) in
           let l : length (take 4 (drop (4 * (124 * n + i)) p)) ≡ 4 = length-take-le 4 (drop (4 * (124 * n + i)) p) (omega (arith, inside, long, place, length-drop (4 * (124 * n + i)) p)) in
           ap (bytes 4) e
           ∙ ap (λ (k : ℕ). bytes k (number (take 4 (drop (4 * (124 * n + i)) p)))) (sym l)
