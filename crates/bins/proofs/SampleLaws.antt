@@ -41,11 +41,11 @@ stride-pos n = go (leb n 2048) refl
     go true t = omega arith
     go false t = omega (arith, leb-false n 2048 t)
 
--- a column within the limit has a stride of at most 8,192
-pub stride-le : (n : ℕ) → n ≤ most-rows → stride n ≤ 8192
+-- a column within the limit has a stride of at most that of the longest one
+pub stride-le : (n : ℕ) → n ≤ most-rows → stride n ≤ ceil most-rows 2048
 stride-le n h = go (leb n 2048) refl
   where
-    go : (t : Bool) → leb n 2048 ≡ t → cond t 1 (ceil n 2048) ≤ 8192
+    go : (t : Bool) → leb n 2048 ≡ t → cond t 1 (ceil n 2048) ≤ ceil most-rows 2048
     go true t = omega arith
     go false t = omega arith
 

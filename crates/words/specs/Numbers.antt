@@ -25,4 +25,4 @@ numbered covered-above-rows = 17
 
 -- the most rows of a column; a longer one is 2
 abbrev pub most-rows : ℕ
-most-rows = 16777216
+most-rows = 4294967295

@@ -3,7 +3,7 @@ ghost use mathlib.Core.Path.{_≡_};
 ghost use Rattle.words.specs.Bytes.{signed, unsigned};
 
 // The most rows that a column may have.
-pub const MOST_ROWS: usize = 16777216;
+pub const MOST_ROWS: usize = 4294967295;
 
 // A row's number: never a line's, and never a place in words.
 pub struct Row(pub usize);

@@ -108,7 +108,7 @@ retold hs (a ∷ h ∷ l) = a ∷ times h hs ∷ retold (h ∷ hs) l
 -- words of n entries whose late hours are sorted, with counters that are all 0
 pub record Ready (w : List ℕ) (n late : ℕ) : Type 0 where
   pub size : length w ≡ 4 * n
-  pub small : n < 4294967295
+  pub small : n ≤ 4294967295
   pub few : late ≤ n
   pub sorted : Climbs (take late w)
   pub zeros : (i : ℕ) → i < late → getD w (late + i) 0 ≡ 0
