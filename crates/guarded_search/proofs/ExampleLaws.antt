@@ -1,19 +1,14 @@
 -- The examples of document 01 that are to be proved, and the cases of requests 101, 102 and 104, computed. Assumes nothing.
-use Prim.Native.Nat.{ℕ}
 use mathlib.Core.Path.{_≡_, refl}
-use mathlib.Core.List.{List}
 use mathlib.Core.Bool.{true}
-use lib.IntN.{ℤ}
-use lib.ListN.{length}
 use Rattle.words.specs.Bits.{share, outside}
-use Rattle.bins.specs.Bins.{readings, sampled, sample, spread, borders-of, borders-sorted, borders, not-above, bin, imprint, imprints}
+use Rattle.bins.specs.Bins.{sampled, sample, spread, borders-of, borders-sorted, borders, not-above, bin, imprint, imprints}
 use Rattle.bins.specs.Masks.{matches, asked, inside, mask, inner, fate}
 use Rattle.dictionary.specs.Dictionary.{entries, pack, accepted}
 use Rattle.dictionary.specs.Told.{told-index}
 use Rattle.run_search.specs.Search.{fates, search}
 use Rattle.column_index.specs.Extended.{extended}
 use Rattle.column_index.specs.Promise.{append-answer}
-use Rattle.column_index.specs.declared.AppendAnswer.the-variants as appending
 use Rattle.halving_tree.specs.Tree.{treeOf}
 use Rattle.guarded_search.specs.Examples.{all-hold, P1-to-P12}
 use Rattle.guarded_search.specs.AppendExamples.{append-cases}
@@ -39,8 +34,3 @@ setting-cases-hold = refl
 pub append-cases-hold : all-hold append-cases ≡ true
 unfolding not-above bin imprint imprints entries pack accepted told-index extended append-answer
 append-cases-hold = refl
-
--- 16,777,217 ROWS GIVE 2, whatever else is wrong (too many to compute)
-pub append-too-long : (col bs : List ℤ) (is ds : List ℕ) (covered ti td : ℕ) → length col ≡ 16777217 → append-answer readings col covered bs is ti ds td ≡ appending.TooLong
-unfolding append-answer
-append-too-long col bs is ds covered ti td e = rw (e)
