@@ -265,7 +265,7 @@ fn packs(borders: &[i32], fallen: &[i32]) {
 fn unpacks(borders: &[i32], fallen: &[i32], imprints: &[u64], dictionary: &[u32]) {
     let mut back = [0u64; 3];
     unpacked(reading_index::made::unpack(borders, imprints, dictionary, 3, &mut back));
-    unpacked(reading_index::made::unpack(borders, imprints, dictionary, 1048577, &mut back));
+    unpacked(reading_index::made::unpack(borders, imprints, dictionary, 268435457, &mut back));
     unpacked(reading_index::made::unpack(fallen, imprints, dictionary, 3, &mut back));
     unpacked(reading_index::made::unpack(borders, imprints, dictionary, 4, &mut back));
     unpacked(reading_index::made::unpack(
