@@ -3,19 +3,21 @@ use Prim.Native.Nat.{ℕ, suc, _-_, _*_, _/_, _^_}
 use mathlib.Core.Path.{_≡_}
 use mathlib.Core.List.{List, [], _∷_, _++_, map, List·Memᴰ}
 use mathlib.Core.Bool.{Bool, true, cond, _&&_}
-use lib.Dec.{leb}
+use lib.Dec.{leb, lit≤, lit<}
 use lib.ListN.{length, getD}
 use lib.IntN.{ℤ, pos, negsuc}
 use lib.Signed.{leZ, ltZ}
-use Rattle.words.specs.Numbers.{most-rows}
+use Rattle.words.specs.Numbers.{most-rows, largest, Largest}
 use Rattle.words.specs.Lists.{from, ceil, pieces, has}
 use Rattle.words.specs.Bits.{word}
 
--- A kind of column: how many rows a line has, and the least and the greatest value. Sample, bin and match take it too; they are the same for every kind.
+-- A kind of column: how many rows a line has, the least and the greatest value, and the largest count of an entry of its dictionary, 2 or more. Sample, bin and match take it too; they are the same for every kind.
 pub record Kind : Type 0 where
   pub per : ℕ
   pub least : ℤ
   pub greatest : ℤ
+  pub full : ℕ
+  pub may-fill : Largest full
 
 -- A fault: the least value of the kind, which a dead probe sends. No value of the kind lies below it.
 abbrev pub fault : Kind → ℤ → Bool
@@ -23,7 +25,7 @@ fault k v = leZ v (k .least)
 
 -- readings: 32 bits, 16 rows to a line
 abbrev pub readings : Kind
-readings = record { per = 16; least = negsuc (2 ^ 31 - 1); greatest = pos (2 ^ 31 - 1) }
+readings = record { per = 16; least = negsuc (2 ^ 31 - 1); greatest = pos (2 ^ 31 - 1); full = largest; may-fill = (lit≤ tt, lit< tt) }
 
 -- every value of the column is one of its kind
 abbrev pub InKind : Kind → List ℤ → Type 0

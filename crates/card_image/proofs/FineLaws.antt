@@ -11,7 +11,7 @@ use Rattle.words.specs.Numbers.{numbered, most-rows}
 use Rattle.words.specs.Lists.{ceil}
 use Rattle.bins.specs.Bins.{bins}
 use Rattle.bins.proofs.SampleLaws.{ceil-le}
-use Rattle.dictionary.specs.Dictionary.{pack, unpack, largest}
+use Rattle.dictionary.specs.Dictionary.{pack, unpack}
 use Rattle.dictionary.proofs.IndexLaws.{pack-unpack, accepted-lines}
 use Rattle.dictionary.proofs.PackLoops.{dict-short, imps-short}
 use Rattle.column_index.proofs.AnswerLaws.{good-few}
@@ -38,16 +38,16 @@ module _ (e : Edition) (rows : ℕ) (w : Words) where
       let ok = rows-passed (e .kind) rows (w .borders) (w .imprints) (w .dictionary) q in
       let lines : ℕ = ceil rows (e .kind .per) in
       let ws : List ℕ = unpack (w .dictionary) (w .imprints) in
-      let n = accepted-lines largest (lit≤ tt) (lit< tt) (bins (w .borders)) lines (w .dictionary) (w .imprints) (ok .index) .1 in
-      let k = pack-unpack largest (lit≤ tt) (lit< tt) (bins (w .borders)) lines (w .dictionary) (w .imprints) (ok .index) in
-      let d : length (pack largest ws .dict) ≡ length (w .dictionary) = ap length (k .0) in
-      let i : length (pack largest ws .imps) ≡ length (w .imprints) = ap length (k .1) in
+      let n = accepted-lines (e .kind .full) (e .kind .may-fill .0) (e .kind .may-fill .1) (bins (w .borders)) lines (w .dictionary) (w .imprints) (ok .index) .1 in
+      let k = pack-unpack (e .kind .full) (e .kind .may-fill .0) (e .kind .may-fill .1) (bins (w .borders)) lines (w .dictionary) (w .imprints) (ok .index) in
+      let d : length (pack (e .kind .full) ws .dict) ≡ length (w .dictionary) = ap length (k .0) in
+      let i : length (pack (e .kind .full) ws .imps) ≡ length (w .imprints) = ap length (k .1) in
       let m : rows * 1 ≤ rows * e .kind .per = mul-le-mul-left rows per in
       record {
         few-rows = ok .few-rows;
         few-borders = good-few (w .borders) (ok .good);
-        few-imprints = omega (arith, n, i, imps-short ws);
-        few-dictionary = omega (arith, n, d, dict-short ws);
+        few-imprints = omega (arith, n, i, imps-short (e .kind .full) (e .kind .may-fill .0) ws);
+        few-dictionary = omega (arith, n, d, dict-short (e .kind .full) (e .kind .may-fill .0) ws);
         few-lines = ceil-le rows (e .kind .per) rows per (omega (arith, m));
       }
 

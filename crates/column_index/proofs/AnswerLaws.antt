@@ -14,7 +14,7 @@ use Rattle.words.proofs.ListLaws.{sets-filled}
 use Rattle.words.specs.Numbers.{most-rows}
 use Rattle.bins.specs.Bins.{Kind, most-lines, borders, rising, good-borders, bins}
 use Rattle.bins.proofs.BorderLaws.{borders-count}
-use Rattle.dictionary.specs.Dictionary.{pack, unpack, largest, fit, accepted}
+use Rattle.dictionary.specs.Dictionary.{pack, unpack, fit, accepted}
 use Rattle.dictionary.proofs.IndexLaws.{accepted-lines}
 use Rattle.column_index.specs.Index.{packed-with, built}
 use Rattle.column_index.specs.Promise.{Builds, build-answer, Packs, pack-answer, Unpacks, unpack-answer}
@@ -39,12 +39,12 @@ module _ (k : Kind) (ws : List ℕ) (bs : List ℤ) (is ds : List ℕ) where
       unfolding pack-answer
       pack-unfit f = record { answers = rw (le-ltb (most-lines k) (length ws) short, good, f); imprints-after = refl; dictionary-after = refl }
 
-      module _ (fits : every (fit (bins bs)) ws ≡ true) (i : ℕ) (of-i : i ≡ length (pack largest ws .imps)) where
+      module _ (fits : every (fit (bins bs)) ws ≡ true) (i : ℕ) (of-i : i ≡ length (pack (k .full) ws .imps)) where
         pub pack-imprints-short : length is < i → Packs k ws bs is ds (packing.ImprintsShort i) is ds
         unfolding pack-answer
         pack-imprints-short h = record { answers = rw (le-ltb (most-lines k) (length ws) short, good, fits, ← of-i, lt-ltb (length is) i h); imprints-after = refl; dictionary-after = refl }
 
-        module _ (room-i : i ≤ length is) (d : ℕ) (of-d : d ≡ length (pack largest ws .dict)) where
+        module _ (room-i : i ≤ length is) (d : ℕ) (of-d : d ≡ length (pack (k .full) ws .dict)) where
           pub pack-dictionary-short : length ds < d → Packs k ws bs is ds (packing.DictionaryShort d) is ds
           unfolding pack-answer
           pack-dictionary-short h =
@@ -54,13 +54,13 @@ module _ (k : Kind) (ws : List ℕ) (bs : List ℤ) (is ds : List ℕ) where
                 dictionary-after = refl;
               }
 
-          pub pack-done : d ≤ length ds → (is′ ds′ : List ℕ) → is′ ≡ sets is 0 (pack largest ws .imps) → ds′ ≡ sets ds 0 (pack largest ws .dict) → Packs k ws bs is ds (packing.Done i d) is′ ds′
+          pub pack-done : d ≤ length ds → (is′ ds′ : List ℕ) → is′ ≡ sets is 0 (pack (k .full) ws .imps) → ds′ ≡ sets ds 0 (pack (k .full) ws .dict) → Packs k ws bs is ds (packing.Done i d) is′ ds′
           unfolding pack-answer
           pack-done room-d is′ ds′ ei ed =
               record {
                 answers = rw (le-ltb (most-lines k) (length ws) short, good, fits, ← of-i, le-ltb (length is) i room-i, ← of-d, le-ltb (length ds) d room-d);
-                imprints-after = ei ∙ sets-filled (pack largest ws .imps) is (omega (arith, of-i));
-                dictionary-after = ed ∙ sets-filled (pack largest ws .dict) ds (omega (arith, of-d));
+                imprints-after = ei ∙ sets-filled (pack (k .full) ws .imps) is (omega (arith, of-i));
+                dictionary-after = ed ∙ sets-filled (pack (k .full) ws .dict) ds (omega (arith, of-d));
               }
 
 -- ---- unpack
@@ -76,11 +76,11 @@ module _ (k : Kind) (bs : List ℤ) (is ds : List ℕ) (lines : ℕ) (ws : List 
     unpack-bad-borders b = record { answers = rw (le-ltb (most-lines k) lines short, b); list-after = refl }
 
     module _ (good : good-borders bs ≡ true) where
-      pub unpack-no-index : accepted largest (bins bs) lines ds is ≡ false → Unpacks k bs is ds lines ws unpacking.NoIndex ws
+      pub unpack-no-index : accepted (k .full) (bins bs) lines ds is ≡ false → Unpacks k bs is ds lines ws unpacking.NoIndex ws
       unfolding unpack-answer
       unpack-no-index a = record { answers = rw (le-ltb (most-lines k) lines short, good, a); list-after = refl }
 
-      module _ (index : accepted largest (bins bs) lines ds is ≡ true) where
+      module _ (index : accepted (k .full) (bins bs) lines ds is ≡ true) where
         pub unpack-short : length ws < lines → Unpacks k bs is ds lines ws (unpacking.Short lines) ws
         unfolding unpack-answer
         unpack-short h = record { answers = rw (le-ltb (most-lines k) lines short, good, index, lt-ltb (length ws) lines h); list-after = refl }
@@ -94,7 +94,7 @@ module _ (k : Kind) (bs : List ℤ) (is ds : List ℕ) (lines : ℕ) (ws : List 
             }
           where
             lines-are : length (unpack ds is) ≡ lines
-            lines-are = accepted-lines largest (lit≤ tt) (lit< tt) (bins bs) lines ds is index .1
+            lines-are = accepted-lines (k .full) (k .may-fill .0) (k .may-fill .1) (bins bs) lines ds is index .1
 
 -- ---- build
 

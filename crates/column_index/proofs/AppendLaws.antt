@@ -12,7 +12,7 @@ use borrow.Author.Tests.{le-ltb, ltb-false}
 use Rattle.words.specs.Numbers.{numbered, most-rows}
 use Rattle.words.specs.Lists.{ceil, filled}
 use Rattle.bins.specs.Bins.{Kind, borders, good-borders, bins, imprints}
-use Rattle.dictionary.specs.Dictionary.{pack, unpack, largest, accepted}
+use Rattle.dictionary.specs.Dictionary.{pack, unpack, accepted}
 use Rattle.dictionary.specs.Told.{told-index}
 use Rattle.dictionary.proofs.IndexLaws.{unpack-pack, pack-accepted}
 use Rattle.dictionary.proofs.ToldLaws.{Told, told-known, told-is}
@@ -51,7 +51,7 @@ pub record Appended-all (k : Kind) (col : List ℤ) (covered : ℕ) (bs : List �
   pub few : length col ≤ most-rows
   pub within : covered ≤ length col
   pub good : good-borders bs ≡ true
-  pub told : told-index (bins bs) (ceil covered (k .per)) is ti ds td ≡ true
+  pub told : told-index (k .full) (bins bs) (ceil covered (k .per)) is ti ds td ≡ true
   pub imprints-front : take i is′ ≡ extended-index k bs col covered (take td ds) (take ti is) .imps
   pub dictionary-front : take d ds′ ≡ extended-index k bs col covered (take td ds) (take ti is) .dict
   pub imprints-new : i ≡ length (extended-index k bs col covered (take td ds) (take ti is) .imps)
@@ -67,7 +67,7 @@ module _ {k : Kind} {col : List ℤ} {covered : ℕ} {bs : List ℤ} {is : List 
   appends-all {i} {d} {is′} {ds′} p =
       let xi = extended-index k bs col covered (take td ds) (take ti is) .imps in
       let xd = extended-index k bs col covered (take td ds) (take ti is) .dict in
-      let h = append-passed (ltb most-rows (length col)) (ltb (length col) covered) (good-borders bs) (told-index (bins bs) (ceil covered (k .per)) is ti ds td) (ltb (length is) (length xi)) (ltb (length ds) (length xd)) i d (length xi) (length xd) (p .answers) in
+      let h = append-passed (ltb most-rows (length col)) (ltb (length col) covered) (good-borders bs) (told-index (k .full) (bins bs) (ceil covered (k .per)) is ti ds td) (ltb (length is) (length xi)) (ltb (length ds) (length xd)) i d (length xi) (length xd) (p .answers) in
       let ri : length xi ≤ length is = ltb-false (length is) (length xi) (h .4) in
       let rd : length xd ≤ length ds = ltb-false (length ds) (length xd) (h .5) in
       record {
@@ -86,14 +86,14 @@ module _ {k : Kind} {col : List ℤ} {covered : ℕ} {bs : List ℤ} {is : List 
       }
 
   -- an append whose checks all pass is done
-  passes : {r : AppendAnswer} {is′ ds′ : List ℕ} → Appends k col covered bs is ti ds td r is′ ds′ → length col ≤ most-rows → covered ≤ length col → good-borders bs ≡ true → told-index (bins bs) (ceil covered (k .per)) is ti ds td ≡ true → (i d : ℕ) → i ≡ length (extended-index k bs col covered (take td ds) (take ti is) .imps) → d ≡ length (extended-index k bs col covered (take td ds) (take ti is) .dict) → i ≤ length is → d ≤ length ds → r ≡ appending.Done i d
+  passes : {r : AppendAnswer} {is′ ds′ : List ℕ} → Appends k col covered bs is ti ds td r is′ ds′ → length col ≤ most-rows → covered ≤ length col → good-borders bs ≡ true → told-index (k .full) (bins bs) (ceil covered (k .per)) is ti ds td ≡ true → (i d : ℕ) → i ≡ length (extended-index k bs col covered (take td ds) (take ti is) .imps) → d ≡ length (extended-index k bs col covered (take td ds) (take ti is) .dict) → i ≤ length is → d ≤ length ds → r ≡ appending.Done i d
   unfolding append-answer
   passes p few within good told i d ei ed ri rd = p .answers ∙ rw (le-ltb most-rows (length col) few, le-ltb (length col) covered within, good, told, ← ei, ← ed, le-ltb (length is) i ri, le-ltb (length ds) d rd)
 
   module _ {i d : ℕ} {is′ ds′ : List ℕ} (a : Appended-all k col covered bs is ti ds td i d is′ ds′) where
     -- the told words stand for one fit imprint per line of the covered rows
-    known : Told (bins bs) (ceil covered (k .per)) is ti ds td
-    known = told-known (bins bs) (ceil covered (k .per)) is ti ds td (a .told)
+    known : Told (k .full) (bins bs) (ceil covered (k .per)) is ti ds td
+    known = told-known (k .full) (k .may-fill .0) (k .may-fill .1) (bins bs) (ceil covered (k .per)) is ti ds td (a .told)
 
     -- so among them are those of all full lines
     told-full : 0 < k .per → full-lines k covered ≤ length (unpack (take td ds) (take ti is))
@@ -101,15 +101,15 @@ module _ {k : Kind} {col : List ℤ} {covered : ℕ} {bs : List ℤ} {is : List 
 
     -- THE NEW WORDS STAND FOR THE EXTENDED IMPRINTS
     pub appended-lines : unpack (take d ds′) (take i is′) ≡ extended k bs col covered (unpack (take td ds) (take ti is))
-    appended-lines = ap₂ unpack (a .dictionary-front) (a .imprints-front) ∙ unpack-pack largest (lit≤ tt) (lit< tt) (extended k bs col covered (unpack (take td ds) (take ti is)))
+    appended-lines = ap₂ unpack (a .dictionary-front) (a .imprints-front) ∙ unpack-pack (k .full) (k .may-fill .0) (k .may-fill .1) (extended k bs col covered (unpack (take td ds) (take ti is)))
 
     -- THE NEW WORDS ARE AN INDEX FOR THE LONGER COLUMN
     pub appended-accepted : 0 < k .per → is-index-for k bs col (take d ds′) (take i is′) ≡ true
     appended-accepted per =
         let ws = extended k bs col covered (unpack (take td ds) (take ti is)) in
         ap₂ (is-index-for k bs col) (a .dictionary-front) (a .imprints-front)
-        ∙ ap (λ (n : ℕ). accepted largest (bins bs) n (pack largest ws .dict) (pack largest ws .imps)) (sym (extended-length k per bs col covered (a .within) (unpack (take td ds) (take ti is)) (told-full per)))
-        ∙ pack-accepted largest (lit≤ tt) (lit< tt) (bins bs) ws (extended-fit k per bs col covered (a .within) (unpack (take td ds) (take ti is)) (known .fits))
+        ∙ ap (λ (n : ℕ). accepted (k .full) (bins bs) n (pack (k .full) ws .dict) (pack (k .full) ws .imps)) (sym (extended-length k per bs col covered (a .within) (unpack (take td ds) (take ti is)) (told-full per)))
+        ∙ pack-accepted (k .full) (k .may-fill .0) (k .may-fill .1) (bins bs) ws (extended-fit k per bs col covered (a .within) (unpack (take td ds) (take ti is)) (known .fits))
 
     -- FROM THE COVERED ROWS' OWN INDEX THEY ARE THE LONGER COLUMN'S OWN
     pub appended-own : 0 < k .per → Own k (take covered col) bs (take ti is) (take td ds) → Own k col bs (take i is′) (take d ds′)
@@ -117,8 +117,8 @@ module _ {k : Kind} {col : List ℤ} {covered : ℕ} {bs : List ℤ} {is : List 
         let e = own-extended k per bs col covered (a .within) o in
         record {
           good = o .good;
-          imprints-own = a .imprints-front ∙ ap (λ (ws : List ℕ). pack largest ws .imps) e;
-          dictionary-own = a .dictionary-front ∙ ap (λ (ws : List ℕ). pack largest ws .dict) e;
+          imprints-own = a .imprints-front ∙ ap (λ (ws : List ℕ). pack (k .full) ws .imps) e;
+          dictionary-own = a .dictionary-front ∙ ap (λ (ws : List ℕ). pack (k .full) ws .dict) e;
         }
 
     -- one append does the same
@@ -160,10 +160,10 @@ module _ {k : Kind} {col : List ℤ} {covered : ℕ} {bs : List ℤ} {is : List 
   appends-own-done per o few within told-i told-d room-i room-d p =
       let e = own-extended k per bs col covered within o in
       let l : ceil (length (take covered col)) (k .per) ≡ ceil covered (k .per) = ap (λ (n : ℕ). ceil n (k .per)) (length-take-le covered col within) in
-      let a : accepted largest (bins bs) (ceil covered (k .per)) (take td ds) (take ti is) ≡ true = rw l at (own-accepted per o) in
-      passes p few within (o .good) (told-is (bins bs) (ceil covered (k .per)) is ti ds td told-i told-d a)
+      let a : accepted (k .full) (bins bs) (ceil covered (k .per)) (take td ds) (take ti is) ≡ true = rw l at (own-accepted per o) in
+      passes p few within (o .good) (told-is (k .full) (k .may-fill .0) (k .may-fill .1) (bins bs) (ceil covered (k .per)) is ti ds td told-i told-d a)
       (length (packed-with k bs col .imps)) (length (packed-with k bs col .dict))
-      (ap (λ (ws : List ℕ). length (pack largest ws .imps)) (sym e)) (ap (λ (ws : List ℕ). length (pack largest ws .dict)) (sym e))
+      (ap (λ (ws : List ℕ). length (pack (k .full) ws .imps)) (sym e)) (ap (λ (ws : List ℕ). length (pack (k .full) ws .dict)) (sym e))
       room-i room-d
 
 -- IF THE INDEX WAS BUILT FROM THE COVERED ROWS, THE RESULT EQUALS BUILDING OVER THE LONGER COLUMN WITH THE BORDERS CARRIED
@@ -200,10 +200,10 @@ module _ {k : Kind} (per : 0 < k .per) {col bs : List ℤ} where
         within = omega (arith, up-to, b .within);
         good = a .good;
         told = a .told;
-        imprints-front = b .imprints-front ∙ ap (λ (ws : List ℕ). pack largest ws .imps) e;
-        dictionary-front = b .dictionary-front ∙ ap (λ (ws : List ℕ). pack largest ws .dict) e;
-        imprints-new = b .imprints-new ∙ ap (λ (ws : List ℕ). length (pack largest ws .imps)) e;
-        dictionary-new = b .dictionary-new ∙ ap (λ (ws : List ℕ). length (pack largest ws .dict)) e;
+        imprints-front = b .imprints-front ∙ ap (λ (ws : List ℕ). pack (k .full) ws .imps) e;
+        dictionary-front = b .dictionary-front ∙ ap (λ (ws : List ℕ). pack (k .full) ws .dict) e;
+        imprints-new = b .imprints-new ∙ ap (λ (ws : List ℕ). length (pack (k .full) ws .imps)) e;
+        dictionary-new = b .dictionary-new ∙ ap (λ (ws : List ℕ). length (pack (k .full) ws .dict)) e;
         imprints-room = omega (arith, b .imprints-room, a .imprints-space);
         dictionary-room = omega (arith, b .dictionary-room, a .dictionary-space);
         imprints-space = b .imprints-space ∙ a .imprints-space;

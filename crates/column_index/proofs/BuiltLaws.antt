@@ -13,7 +13,7 @@ use Rattle.words.specs.Lists.{pieces, every}
 use Rattle.words.proofs.ListLaws.{both, pieces-nil, pieces-more, pieces-short}
 use Rattle.bins.specs.Bins.{Kind, InKind, rising, bins, imprint, imprints, borders}
 use Rattle.bins.proofs.BinLaws.{imprint-lt, imprint-pos, imprints-length}
-use Rattle.dictionary.specs.Dictionary.{fit, largest, accepted}
+use Rattle.dictionary.specs.Dictionary.{fit, accepted}
 use Rattle.dictionary.proofs.IndexLaws.{pack-accepted, unpack-pack}
 use Rattle.column_index.specs.Index.{packed-with, built, is-index-for}
 use Rattle.run_search.specs.Search.{scan, search-by, search}
@@ -49,8 +49,8 @@ module _ (k : Kind) (p : 0 < k .per) where
   -- the packed imprints of a column are an index for it, whatever the borders
   pub packed-accepted : (bs col : List ℤ) → is-index-for k bs col (packed-with k bs col .dict) (packed-with k bs col .imps) ≡ true
   packed-accepted bs col =
-      ap (λ (n : ℕ). accepted largest (bins bs) n (packed-with k bs col .dict) (packed-with k bs col .imps)) (sym (imprints-length k bs col))
-      ∙ pack-accepted largest (lit≤ tt) (lit< tt) (bins bs) (imprints k bs col) (imprints-fit bs col)
+      ap (λ (n : ℕ). accepted (k .full) (bins bs) n (packed-with k bs col .dict) (packed-with k bs col .imps)) (sym (imprints-length k bs col))
+      ∙ pack-accepted (k .full) (k .may-fill .0) (k .may-fill .1) (bins bs) (imprints k bs col) (imprints-fit bs col)
 
   -- WHAT IS BUILT IS ACCEPTED
   pub built-accepted : (col : List ℤ) → is-index-for k (borders k col) col (built k col .dict) (built k col .imps) ≡ true
@@ -59,5 +59,5 @@ module _ (k : Kind) (p : 0 < k .per) where
   -- WITH THE PACKED IMPRINTS OF THE COLUMN THE SEARCH LISTS WHAT A PLAIN SCAN LISTS, whatever the borders
   pub packed-scan : (bs col : List ℤ) (low high : ℤ) → rising bs ≡ true → InKind k col → search-by k bs (packed-with k bs col .dict) (packed-with k bs col .imps) col low high .ids ≡ scan k low high 0 col
   packed-scan bs col low high r i =
-      ap (λ (ws : List ℕ). search k bs ws col low high .ids) (unpack-pack largest (lit≤ tt) (lit< tt) (imprints k bs col))
+      ap (λ (ws : List ℕ). search k bs ws col low high .ids) (unpack-pack (k .full) (k .may-fill .0) (k .may-fill .1) (imprints k bs col))
       ∙ search-scan k bs low high r p col i

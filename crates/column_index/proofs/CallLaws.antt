@@ -18,7 +18,7 @@ use Rattle.bins.specs.Bins.{Kind, most-lines, bins, good-borders}
 use Rattle.bins.specs.Masks.{fate, mask, inner}
 use Rattle.bins.specs.declared.Fate.{Fate}
 use Rattle.bins.specs.declared.Fate.the-variants.{Skipped, Whole, Compared}
-use Rattle.dictionary.specs.Dictionary.{Entry, plain, repeat, entries, entry-word, kept, pack, unpack, largest, fit, accepted}
+use Rattle.dictionary.specs.Dictionary.{Entry, plain, repeat, entries, entry-word, kept, pack, unpack, fit, accepted}
 use Rattle.dictionary.proofs.IndexLaws.{pack-unpack, accepted-lines}
 use Rattle.dictionary.proofs.PositionLaws.{Sized, entries-sized}
 use Rattle.column_index.specs.Index.{line-count, is-index-for}
@@ -49,12 +49,12 @@ readable-words (repeat n w ∷ es) s =
     let m : (n + 2 ^ 24) % 2 ^ 24 ≡ n = omega (arith, s .1) in
     rw (d, m) (s .0, omega arith, readable-words es (s .2))
 
-pub accepted-readable : (n lines : ℕ) (ds is : List ℕ) → accepted largest n lines ds is ≡ true → Readable ds is
+pub accepted-readable : (k : Kind) (n lines : ℕ) (ds is : List ℕ) → accepted (k .full) n lines ds is ≡ true → Readable ds is
 unfolding pack
-accepted-readable n lines ds is a =
-    let back = pack-unpack largest (lit≤ tt) (lit< tt) n lines ds is a in
-    let r : Readable (map entry-word (entries largest (unpack ds is))) (joined (map kept (entries largest (unpack ds is)))) = readable-words (entries largest (unpack ds is)) (entries-sized largest (lit≤ tt) (lit< tt) (unpack ds is)) in
-    subst (λ (i : List ℕ). Readable ds i) (back .1) (subst (λ (d : List ℕ). Readable d (pack largest (unpack ds is) .imps)) (back .0) r)
+accepted-readable k n lines ds is a =
+    let back = pack-unpack (k .full) (k .may-fill .0) (k .may-fill .1) n lines ds is a in
+    let r : Readable (map entry-word (entries (k .full) (unpack ds is))) (joined (map kept (entries (k .full) (unpack ds is)))) = readable-words (entries (k .full) (unpack ds is)) (entries-sized (k .full) (k .may-fill .0) (k .may-fill .1) (unpack ds is)) in
+    subst (λ (i : List ℕ). Readable ds i) (back .1) (subst (λ (d : List ℕ). Readable d (pack (k .full) (unpack ds is) .imps)) (back .0) r)
 
 -- ---- the bins of an index are among the 64 bits of a word
 
@@ -78,7 +78,7 @@ through-wide k q col (w ∷ ws) c l f =
 -- THE SEARCH BY AN ACCEPTED INDEX, AS THE PROGRAM GOES
 pub search-by-through : (k : Kind) → 0 < k .per → (bs : List ℤ) (ds is : List ℕ) (col : List ℤ) (low high : ℤ) → length bs ≤ 63 → is-index-for k bs col ds is ≡ true → search-by k bs ds is col low high ≡ through k (widened (asking k bs low high)) col 0 (unpack ds is)
 search-by-through k p bs ds is col low high l a =
-    let n = accepted-lines largest (lit≤ tt) (lit< tt) (bins bs) (line-count k col) ds is a in
+    let n = accepted-lines (k .full) (k .may-fill .0) (k .may-fill .1) (bins bs) (line-count k col) ds is a in
     search-through k p bs low high col (unpack ds is) (n .1)
     ∙ through-wide k (asking k bs low high) col (unpack ds is) 0 (omega arith) (n .0)
 
@@ -86,28 +86,28 @@ search-by-through k p bs ds is col low high l a =
 
 module _ (k : Kind) (rows : ℕ) (bs : List ℤ) (is ds : List ℕ) where
   pub checked-long : most-rows < rows → checking.TooLong ≡ checked-rows k rows bs is ds
-  checked-long h = sym (ap (λ (b : Bool). cond b checking.TooLong (cond (not (good-borders bs)) checking.BadBorders (cond (not (accepted largest (bins bs) (ceil rows (k .per)) ds is)) checking.NoIndex checking.Fine))) (lt-ltb most-rows rows h))
+  checked-long h = sym (ap (λ (b : Bool). cond b checking.TooLong (cond (not (good-borders bs)) checking.BadBorders (cond (not (accepted (k .full) (bins bs) (ceil rows (k .per)) ds is)) checking.NoIndex checking.Fine))) (lt-ltb most-rows rows h))
 
   -- past the first check, by the two tests that are left
-  pub checked-rest : rows ≤ most-rows → (g a : Bool) → good-borders bs ≡ g → accepted largest (bins bs) (ceil rows (k .per)) ds is ≡ a → cond (not g) checking.BadBorders (cond (not a) checking.NoIndex checking.Fine) ≡ checked-rows k rows bs is ds
+  pub checked-rest : rows ≤ most-rows → (g a : Bool) → good-borders bs ≡ g → accepted (k .full) (bins bs) (ceil rows (k .per)) ds is ≡ a → cond (not g) checking.BadBorders (cond (not a) checking.NoIndex checking.Fine) ≡ checked-rows k rows bs is ds
   checked-rest h g a p q =
-      sym (ap (λ (b : Bool). cond b checking.TooLong (cond (not (good-borders bs)) checking.BadBorders (cond (not (accepted largest (bins bs) (ceil rows (k .per)) ds is)) checking.NoIndex checking.Fine))) (le-ltb most-rows rows h)
+      sym (ap (λ (b : Bool). cond b checking.TooLong (cond (not (good-borders bs)) checking.BadBorders (cond (not (accepted (k .full) (bins bs) (ceil rows (k .per)) ds is)) checking.NoIndex checking.Fine))) (le-ltb most-rows rows h)
       ∙ ap₂ (λ (x y : Bool). cond (not x) checking.BadBorders (cond (not y) checking.NoIndex checking.Fine)) p q)
 
   -- bad borders, whatever the words
   pub checked-borders : rows ≤ most-rows → good-borders bs ≡ false → checking.BadBorders ≡ checked-rows k rows bs is ds
-  checked-borders h p = checked-rest h false (accepted largest (bins bs) (ceil rows (k .per)) ds is) p refl
+  checked-borders h p = checked-rest h false (accepted (k .full) (bins bs) (ceil rows (k .per)) ds is) p refl
 
   -- what a passed check says
   pub record Passed : Type 0 where
     pub few-rows : rows ≤ most-rows
     pub good : good-borders bs ≡ true
-    pub index : accepted largest (bins bs) (ceil rows (k .per)) ds is ≡ true
+    pub index : accepted (k .full) (bins bs) (ceil rows (k .per)) ds is ≡ true
 
   pub rows-passed : checked-rows k rows bs is ds ≡ checking.Fine → Passed
-  rows-passed e = go (ltb most-rows rows) refl (good-borders bs) refl (accepted largest (bins bs) (ceil rows (k .per)) ds is) refl e
+  rows-passed e = go (ltb most-rows rows) refl (good-borders bs) refl (accepted (k .full) (bins bs) (ceil rows (k .per)) ds is) refl e
     where
-      go : (l : Bool) → ltb most-rows rows ≡ l → (g : Bool) → good-borders bs ≡ g → (a : Bool) → accepted largest (bins bs) (ceil rows (k .per)) ds is ≡ a → cond l checking.TooLong (cond (not g) checking.BadBorders (cond (not a) checking.NoIndex checking.Fine)) ≡ checking.Fine → Passed
+      go : (l : Bool) → ltb most-rows rows ≡ l → (g : Bool) → good-borders bs ≡ g → (a : Bool) → accepted (k .full) (bins bs) (ceil rows (k .per)) ds is ≡ a → cond l checking.TooLong (cond (not g) checking.BadBorders (cond (not a) checking.NoIndex checking.Fine)) ≡ checking.Fine → Passed
       go true p g q a r e = absurd (let z : _≡_ {A = ℕ} 0 1 = cc in omega arith)
       go false p false q a r e = absurd (let z : _≡_ {A = ℕ} 0 1 = cc in omega arith)
       go false p true q false r e = absurd (let z : _≡_ {A = ℕ} 0 1 = cc in omega arith)
@@ -169,5 +169,5 @@ module _ (k : Kind) (col bs : List ℤ) (is ds : List ℕ) (low high : ℤ) (row
 pub passed-lines : (k : Kind) → 0 < k .per → (col bs : List ℤ) (is ds : List ℕ) → checked-answer k col bs is ds ≡ checking.Fine → (Readable ds is) × (length (unpack ds is) ≤ most-lines k) × (length col ≤ most-rows)
 passed-lines k p col bs is ds e =
     let ok = checked-passed k col bs is ds e in
-    let n = accepted-lines largest (lit≤ tt) (lit< tt) (bins bs) (line-count k col) ds is (ok .index) .1 in
-    (accepted-readable (bins bs) (line-count k col) ds is (ok .index), omega (arith, n, ceil-mono (length col) most-rows (k .per) p (ok .few-rows)), ok .few-rows)
+    let n = accepted-lines (k .full) (k .may-fill .0) (k .may-fill .1) (bins bs) (line-count k col) ds is (ok .index) .1 in
+    (accepted-readable k (bins bs) (line-count k col) ds is (ok .index), omega (arith, n, ceil-mono (length col) most-rows (k .per) p (ok .few-rows)), ok .few-rows)

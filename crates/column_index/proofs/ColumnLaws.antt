@@ -13,7 +13,6 @@ use Rattle.bins.specs.Bins.{Kind, imprint, imprints}
 use Rattle.bins.proofs.BinLaws.{imprints-length}
 use Rattle.bins.proofs.LineLaws.{imprints-at}
 use Rattle.dictionary.specs.declared.packing.Packer.{Packer}
-use Rattle.dictionary.specs.Dictionary.{largest}
 use Rattle.dictionary.specs.loops.Packer.{after, move-on, added, settled, imps-from, dict-from, Steady, starting, kept-then, words-then}
 use Rattle.dictionary.proofs.PackLoops.{Measuring, measuring-next, measuring-ends, Writing, writing-next, writing-ends, dict-short, imps-short, dict-packs, imps-packs, starts-steady, words-then-all, kept-then-all}
 use Rattle.column_index.specs.Index.{packed-with}
@@ -22,10 +21,10 @@ use Rattle.column_index.specs.Extended.{imprints-from}
 module _ (k : Kind) (bs col : List ℤ) where
   -- a packing is never longer than the lines
   pub column-imps-short : length (packed-with k bs col .imps) ≤ ceil (length col) (k .per)
-  column-imps-short = rw (← imprints-length k bs col) (imps-short (imprints k bs col))
+  column-imps-short = rw (← imprints-length k bs col) (imps-short (k .full) (k .may-fill .0) (imprints k bs col))
 
   pub column-dict-short : length (packed-with k bs col .dict) ≤ ceil (length col) (k .per)
-  column-dict-short = rw (← imprints-length k bs col) (dict-short (imprints k bs col))
+  column-dict-short = rw (← imprints-length k bs col) (dict-short (k .full) (k .may-fill .0) (imprints k bs col))
 
   -- the lines from `first` on
   pub lines-from : (first : ℕ) → length (imprints-from k bs col first) ≡ ceil (length col) (k .per) - first
@@ -33,20 +32,20 @@ module _ (k : Kind) (bs col : List ℤ) where
 
   -- a new packer that goes through all lines makes their packing
   module _ (p : Packer) (new : p ≡ starting) where
-    pub steady-from-nothing : Steady (p .state)
-    steady-from-nothing = rw new starts-steady
+    pub steady-from-nothing : Steady (k .full) (p .state)
+    steady-from-nothing = rw new (starts-steady (k .full) (k .may-fill .0))
 
-    pub kept-from-nothing : kept-then largest p (imprints-from k bs col 0) ≡ length (packed-with k bs col .imps)
-    kept-from-nothing = rw new (kept-then-all (imprints k bs col))
+    pub kept-from-nothing : kept-then (k .full) p (imprints-from k bs col 0) ≡ length (packed-with k bs col .imps)
+    kept-from-nothing = rw new (kept-then-all (k .full) (k .may-fill .0) (imprints k bs col))
 
-    pub words-from-nothing : words-then largest p (imprints-from k bs col 0) ≡ length (packed-with k bs col .dict)
-    words-from-nothing = rw new (words-then-all (imprints k bs col))
+    pub words-from-nothing : words-then (k .full) p (imprints-from k bs col 0) ≡ length (packed-with k bs col .dict)
+    words-from-nothing = rw new (words-then-all (k .full) (k .may-fill .0) (imprints k bs col))
 
-    pub imps-from-nothing : (l : List ℕ) → sets l (p .kept) (imps-from largest (p .state) (imprints-from k bs col 0)) ≡ sets l 0 (packed-with k bs col .imps)
-    imps-from-nothing l = rw new (ap (sets l 0) (imps-packs (imprints k bs col)))
+    pub imps-from-nothing : (l : List ℕ) → sets l (p .kept) (imps-from (k .full) (p .state) (imprints-from k bs col 0)) ≡ sets l 0 (packed-with k bs col .imps)
+    imps-from-nothing l = rw new (ap (sets l 0) (imps-packs (k .full) (k .may-fill .0) (imprints k bs col)))
 
-    pub dict-from-nothing : (l : List ℕ) → sets l (p .words) (dict-from largest (p .state) (imprints-from k bs col 0)) ≡ sets l 0 (packed-with k bs col .dict)
-    dict-from-nothing l = rw new (ap (sets l 0) (dict-packs (imprints k bs col)))
+    pub dict-from-nothing : (l : List ℕ) → sets l (p .words) (dict-from (k .full) (p .state) (imprints-from k bs col 0)) ≡ sets l 0 (packed-with k bs col .dict)
+    dict-from-nothing l = rw new (ap (sets l 0) (dict-packs (k .full) (k .may-fill .0) (imprints k bs col)))
 
   -- line i begins inside the column
   pub line-inside : (i : ℕ) → 0 < k .per → i < ceil (length col) (k .per) → k .per * i ≤ length col
@@ -61,21 +60,21 @@ module _ (k : Kind) (bs col : List ℤ) where
       inside : i < length (imprints k bs col)
       inside = rw imprints-length h
 
-      pub column-measures : Measuring p₀ (drop first (imprints k bs col)) p (drop i (imprints k bs col)) → Measuring p₀ (drop first (imprints k bs col)) (after p (move-on largest (p .state) y)) (drop (i + 1) (imprints k bs col))
-      column-measures m = rw here at (measuring-next p₀ (drop first (imprints k bs col)) (imprints k bs col) p i inside m)
+      pub column-measures : Measuring (k .full) p₀ (drop first (imprints k bs col)) p (drop i (imprints k bs col)) → Measuring (k .full) p₀ (drop first (imprints k bs col)) (after p (move-on (k .full) (p .state) y)) (drop (i + 1) (imprints k bs col))
+      column-measures m = rw here at (measuring-next (k .full) (k .may-fill .0) p₀ (drop first (imprints k bs col)) (imprints k bs col) p i inside m)
 
-      pub column-writes : (i₀ d₀ is ds : List ℕ) → Writing p₀ (drop first (imprints k bs col)) i₀ d₀ p (drop i (imprints k bs col)) is ds → (is′ ds′ : List ℕ) → is′ ≡ sets is (p .kept) (added (move-on largest (p .state) y .keeps) y) → ds′ ≡ sets ds (p .words) (settled (move-on largest (p .state) y .word)) → Writing p₀ (drop first (imprints k bs col)) i₀ d₀ (after p (move-on largest (p .state) y)) (drop (i + 1) (imprints k bs col)) is′ ds′
-      column-writes i₀ d₀ is ds = rw here at (writing-next p₀ (drop first (imprints k bs col)) (imprints k bs col) p i i₀ d₀ is ds inside)
+      pub column-writes : (i₀ d₀ is ds : List ℕ) → Writing (k .full) p₀ (drop first (imprints k bs col)) i₀ d₀ p (drop i (imprints k bs col)) is ds → (is′ ds′ : List ℕ) → is′ ≡ sets is (p .kept) (added (move-on (k .full) (p .state) y .keeps) y) → ds′ ≡ sets ds (p .words) (settled (move-on (k .full) (p .state) y .word)) → Writing (k .full) p₀ (drop first (imprints k bs col)) i₀ d₀ (after p (move-on (k .full) (p .state) y)) (drop (i + 1) (imprints k bs col)) is′ ds′
+      column-writes i₀ d₀ is ds = rw here at (writing-next (k .full) (k .may-fill .0) p₀ (drop first (imprints k bs col)) (imprints k bs col) p i i₀ d₀ is ds inside)
 
     module _ (h : ceil (length col) (k .per) ≤ i) where
       past : length (imprints k bs col) ≤ i
       past = rw imprints-length h
 
-      pub column-measured : Measuring p₀ (drop first (imprints k bs col)) p (drop i (imprints k bs col)) → Measuring p₀ (drop first (imprints k bs col)) p []
-      column-measured m = measuring-ends p₀ (drop first (imprints k bs col)) (imprints k bs col) p i past m
+      pub column-measured : Measuring (k .full) p₀ (drop first (imprints k bs col)) p (drop i (imprints k bs col)) → Measuring (k .full) p₀ (drop first (imprints k bs col)) p []
+      column-measured m = measuring-ends (k .full) (k .may-fill .0) p₀ (drop first (imprints k bs col)) (imprints k bs col) p i past m
 
-      pub column-written : (i₀ d₀ is ds : List ℕ) → Writing p₀ (drop first (imprints k bs col)) i₀ d₀ p (drop i (imprints k bs col)) is ds → Writing p₀ (drop first (imprints k bs col)) i₀ d₀ p [] is ds
-      column-written i₀ d₀ is ds w = writing-ends p₀ (drop first (imprints k bs col)) (imprints k bs col) p i i₀ d₀ is ds past w
+      pub column-written : (i₀ d₀ is ds : List ℕ) → Writing (k .full) p₀ (drop first (imprints k bs col)) i₀ d₀ p (drop i (imprints k bs col)) is ds → Writing (k .full) p₀ (drop first (imprints k bs col)) i₀ d₀ p [] is ds
+      column-written i₀ d₀ is ds w = writing-ends (k .full) (k .may-fill .0) p₀ (drop first (imprints k bs col)) (imprints k bs col) p i i₀ d₀ is ds past w
 
 -- ---- borders, copied
 

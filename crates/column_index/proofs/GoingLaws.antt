@@ -8,22 +8,21 @@ use lib.Dec.{ltb}
 use lib.ListN.{length}
 use lib.Seq.{sets}
 use borrow.Author.Tests.{lt-ltb, le-ltb, ltb-true, ltb-false}
-use Rattle.dictionary.specs.Dictionary.{largest}
 use Rattle.dictionary.specs.declared.packing.Packer.{Packer}
 use Rattle.dictionary.specs.loops.Packer.{imps-from, dict-from, kept-then, words-then}
 use Rattle.column_index.specs.loops.Going.{spaces, Goes-on}
 use Rattle.column_index.specs.declared.Spaces.{Spaces}
 use Rattle.column_index.specs.declared.Spaces.the-variants.{Filled, ImprintsShort, DictionaryShort}
 
-module _ (p : Packer) (ws is ds : List ℕ) (i : ℕ) (of-i : i ≡ kept-then largest p ws) where
-  pub on-imprints-short : length is < i → Goes-on p ws is ds (ImprintsShort i) is ds
+module _ (full : ℕ) (p : Packer) (ws is ds : List ℕ) (i : ℕ) (of-i : i ≡ kept-then full p ws) where
+  pub on-imprints-short : length is < i → Goes-on full p ws is ds (ImprintsShort i) is ds
   on-imprints-short h = record { answers = rw (← of-i, lt-ltb (length is) i h); imprints-after = refl; dictionary-after = refl }
 
-  module _ (room-i : i ≤ length is) (d : ℕ) (of-d : d ≡ words-then largest p ws) where
-    pub on-dictionary-short : length ds < d → Goes-on p ws is ds (DictionaryShort d) is ds
+  module _ (room-i : i ≤ length is) (d : ℕ) (of-d : d ≡ words-then full p ws) where
+    pub on-dictionary-short : length ds < d → Goes-on full p ws is ds (DictionaryShort d) is ds
     on-dictionary-short h = record { answers = rw (← of-i, le-ltb (length is) i room-i, ← of-d, lt-ltb (length ds) d h); imprints-after = refl; dictionary-after = refl }
 
-    pub on-filled : d ≤ length ds → (is′ ds′ : List ℕ) → is′ ≡ sets is (p .kept) (imps-from largest (p .state) ws) → ds′ ≡ sets ds (p .words) (dict-from largest (p .state) ws) → Goes-on p ws is ds (Filled i d) is′ ds′
+    pub on-filled : d ≤ length ds → (is′ ds′ : List ℕ) → is′ ≡ sets is (p .kept) (imps-from full (p .state) ws) → ds′ ≡ sets ds (p .words) (dict-from full (p .state) ws) → Goes-on full p ws is ds (Filled i d) is′ ds′
     on-filled room-d is′ ds′ ei ed = record { answers = rw (← of-i, le-ltb (length is) i room-i, ← of-d, le-ltb (length ds) d room-d); imprints-after = ei; dictionary-after = ed }
 
 -- ---- what an answer says of the lengths i, d and the spaces si, sd

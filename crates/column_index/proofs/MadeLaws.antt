@@ -12,7 +12,7 @@ use Rattle.words.specs.Numbers.{numbered, most-rows}
 use Rattle.words.specs.Lists.{every, filled}
 use Rattle.words.proofs.ListLaws.{take-filled}
 use Rattle.bins.specs.Bins.{Kind, most-lines, borders, good-borders, bins}
-use Rattle.dictionary.specs.Dictionary.{pack, unpack, largest, fit, accepted}
+use Rattle.dictionary.specs.Dictionary.{pack, unpack, fit, accepted}
 use Rattle.dictionary.proofs.IndexLaws.{unpack-pack, pack-unpack, accepted-lines, pack-accepted}
 use Rattle.column_index.specs.Index.{built}
 use Rattle.column_index.specs.Promise.{Builds, build-answer, build-number, Packs, pack-answer, pack-number, Unpacks, unpack-answer, unpack-number}
@@ -58,19 +58,19 @@ pub record Packed-all (k : Kind) (ws : List ℕ) (bs : List ℤ) (i d : ℕ) (is
   pub few : length ws ≤ most-lines k
   pub good : good-borders bs ≡ true
   pub fits : every (fit (bins bs)) ws ≡ true
-  pub imprints-front : take i is′ ≡ pack largest ws .imps
-  pub dictionary-front : take d ds′ ≡ pack largest ws .dict
+  pub imprints-front : take i is′ ≡ pack (k .full) ws .imps
+  pub dictionary-front : take d ds′ ≡ pack (k .full) ws .dict
 
 pub packs-all : {k : Kind} {ws : List ℕ} {bs : List ℤ} {is ds : List ℕ} {i d : ℕ} {is′ ds′ : List ℕ} → Packs k ws bs is ds (packing.Done i d) is′ ds′ → Packed-all k ws bs i d is′ ds′
 unfolding pack-answer
 packs-all {k} {ws} {bs} {is} {ds} {i} {d} {is′} {ds′} p =
-    let h = pack-passed (ltb (most-lines k) (length ws)) (good-borders bs) (every (fit (bins bs)) ws) (ltb (length is) (length (pack largest ws .imps))) (ltb (length ds) (length (pack largest ws .dict))) i d (length (pack largest ws .imps)) (length (pack largest ws .dict)) (p .answers) in
+    let h = pack-passed (ltb (most-lines k) (length ws)) (good-borders bs) (every (fit (bins bs)) ws) (ltb (length is) (length (pack (k .full) ws .imps))) (ltb (length ds) (length (pack (k .full) ws .dict))) i d (length (pack (k .full) ws .imps)) (length (pack (k .full) ws .dict)) (p .answers) in
     record {
       few = ltb-false (most-lines k) (length ws) (h .0);
       good = h .1;
       fits = h .2;
-      imprints-front = front i (pack largest ws .imps) is is′ (h .3) (p .imprints-after);
-      dictionary-front = front d (pack largest ws .dict) ds ds′ (h .4) (p .dictionary-after);
+      imprints-front = front i (pack (k .full) ws .imps) is is′ (h .3) (p .imprints-after);
+      dictionary-front = front d (pack (k .full) ws .dict) ds ds′ (h .4) (p .dictionary-after);
     }
 
 -- UNPACK OF WHAT PACK WROTE IS THE LIST
@@ -86,10 +86,10 @@ unpacks-packed {k} {ws} {bs} {is} {ds} {i} {d} {is′} {ds′} {list} {r} {list�
     a = packs-all p
 
     whole : unpack (take d ds′) (take i is′) ≡ ws
-    whole = ap₂ unpack (a .dictionary-front) (a .imprints-front) ∙ unpack-pack largest (lit≤ tt) (lit< tt) ws
+    whole = ap₂ unpack (a .dictionary-front) (a .imprints-front) ∙ unpack-pack (k .full) (k .may-fill .0) (k .may-fill .1) ws
 
-    index : accepted largest (bins bs) (length ws) (take d ds′) (take i is′) ≡ true
-    index = ap₂ (accepted largest (bins bs) (length ws)) (a .dictionary-front) (a .imprints-front) ∙ pack-accepted largest (lit≤ tt) (lit< tt) (bins bs) ws (a .fits)
+    index : accepted (k .full) (bins bs) (length ws) (take d ds′) (take i is′) ≡ true
+    index = ap₂ (accepted (k .full) (bins bs) (length ws)) (a .dictionary-front) (a .imprints-front) ∙ pack-accepted (k .full) (k .may-fill .0) (k .may-fill .1) (bins bs) ws (a .fits)
 
     answer : r ≡ unpacking.Done (length ws)
     answer = u .answers ∙ rw (le-ltb (most-lines k) (length ws) (a .few), a .good, index, le-ltb (length list) (length ws) room)
@@ -107,23 +107,23 @@ pub packs-unpacked : {k : Kind} {bs : List ℤ} {is ds : List ℕ} {lines n : �
 unfolding unpack-answer pack-answer
 packs-unpacked {k} {bs} {is} {ds} {lines} {n} {list} {list′} {is₀} {ds₀} {r} {is′} {ds′} u p room-i room-d = (answer, ap (take (length is)) imprints-are ∙ take-filled is is₀, ap (take (length ds)) dictionary-is ∙ take-filled ds ds₀)
   where
-    h : (ltb (most-lines k) lines ≡ false) × (good-borders bs ≡ true) × (accepted largest (bins bs) lines ds is ≡ true) × (n ≡ lines)
-    h = unpack-passed (ltb (most-lines k) lines) (good-borders bs) (accepted largest (bins bs) lines ds is) (ltb (length list) lines) n lines (u .answers)
+    h : (ltb (most-lines k) lines ≡ false) × (good-borders bs ≡ true) × (accepted (k .full) (bins bs) lines ds is ≡ true) × (n ≡ lines)
+    h = unpack-passed (ltb (most-lines k) lines) (good-borders bs) (accepted (k .full) (bins bs) lines ds is) (ltb (length list) lines) n lines (u .answers)
 
     lines-of : (every (fit (bins bs)) (unpack ds is) ≡ true) × (length (unpack ds is) ≡ lines)
-    lines-of = accepted-lines largest (lit≤ tt) (lit< tt) (bins bs) lines ds is (h .2)
+    lines-of = accepted-lines (k .full) (k .may-fill .0) (k .may-fill .1) (bins bs) lines ds is (h .2)
 
-    words-of : (pack largest (unpack ds is) .dict ≡ ds) × (pack largest (unpack ds is) .imps ≡ is)
-    words-of = pack-unpack largest (lit≤ tt) (lit< tt) (bins bs) lines ds is (h .2)
+    words-of : (pack (k .full) (unpack ds is) .dict ≡ ds) × (pack (k .full) (unpack ds is) .imps ≡ is)
+    words-of = pack-unpack (k .full) (k .may-fill .0) (k .may-fill .1) (bins bs) lines ds is (h .2)
 
     listed : take n list′ ≡ unpack ds is
     listed = front n (unpack ds is) list list′ (h .3 ∙ sym (lines-of .1)) (u .list-after)
 
-    imps-are : pack largest (take n list′) .imps ≡ is
-    imps-are = ap (λ (l : List ℕ). pack largest l .imps) listed ∙ words-of .1
+    imps-are : pack (k .full) (take n list′) .imps ≡ is
+    imps-are = ap (λ (l : List ℕ). pack (k .full) l .imps) listed ∙ words-of .1
 
-    dict-is : pack largest (take n list′) .dict ≡ ds
-    dict-is = ap (λ (l : List ℕ). pack largest l .dict) listed ∙ words-of .0
+    dict-is : pack (k .full) (take n list′) .dict ≡ ds
+    dict-is = ap (λ (l : List ℕ). pack (k .full) l .dict) listed ∙ words-of .0
 
     few : ltb (most-lines k) (length (take n list′)) ≡ false
     few = ap (ltb (most-lines k)) (ap length listed ∙ lines-of .1) ∙ h .0

@@ -14,7 +14,7 @@ use Rattle.words.specs.Numbers.{numbered, most-rows}
 use Rattle.words.proofs.ListLaws.{take-filled}
 use Rattle.bins.specs.Bins.{Kind, InKind, imprints, borders, rising, good-borders}
 use Rattle.bins.proofs.BorderLaws.{borders-rising, borders-count}
-use Rattle.dictionary.specs.Dictionary.{largest, unpack}
+use Rattle.dictionary.specs.Dictionary.{unpack}
 use Rattle.dictionary.proofs.IndexLaws.{unpack-pack}
 use Rattle.column_index.specs.Index.{is-index-for, Own}
 use Rattle.column_index.specs.Exact.{Lists-the-scan}
@@ -35,7 +35,7 @@ use Rattle.column_index.proofs.MadeLaws.{builds-all}
 module _ {k : Kind} {col bs : List ℤ} {is ds : List ℕ} where
   -- its words stand for the imprints of the column's lines
   pub own-lines : Own k col bs is ds → unpack ds is ≡ imprints k bs col
-  own-lines o = ap₂ unpack (o .dictionary-own) (o .imprints-own) ∙ unpack-pack largest (lit≤ tt) (lit< tt) (imprints k bs col)
+  own-lines o = ap₂ unpack (o .dictionary-own) (o .imprints-own) ∙ unpack-pack (k .full) (k .may-fill .0) (k .may-fill .1) (imprints k bs col)
 
   -- ITS OWN INDEX IS ACCEPTED
   pub own-accepted : 0 < k .per → Own k col bs is ds → is-index-for k bs col ds is ≡ true

@@ -4,7 +4,7 @@ use mathlib.Core.List.{List, _++_}
 use lib.ListN.{take, drop}
 use lib.IntN.{ℤ}
 use Rattle.bins.specs.Bins.{Kind, imprints}
-use Rattle.dictionary.specs.Dictionary.{Packed, pack, unpack, largest}
+use Rattle.dictionary.specs.Dictionary.{Packed, pack, unpack}
 
 -- the lines that so many rows fill; a last short line is not among them
 abbrev pub full-lines : Kind → ℕ → ℕ
@@ -20,4 +20,4 @@ extended k bs col covered ws = take (full-lines k covered) ws ++ imprints-from k
 
 -- the words of the extended index, where those before, ds and is, stand for the imprints of the covered rows
 abbrev pub extended-index : Kind → List ℤ → List ℤ → ℕ → List ℕ → List ℕ → Packed
-extended-index k bs col covered ds is = pack largest (extended k bs col covered (unpack ds is))
+extended-index k bs col covered ds is = pack (k .full) (extended k bs col covered (unpack ds is))

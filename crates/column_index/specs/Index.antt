@@ -7,7 +7,7 @@ use lib.ListN.{length}
 use lib.IntN.{ℤ}
 use Rattle.words.specs.Lists.{ceil}
 use Rattle.bins.specs.Bins.{Kind, borders, good-borders, bins, imprints}
-use Rattle.dictionary.specs.Dictionary.{Packed, pack, largest, accepted}
+use Rattle.dictionary.specs.Dictionary.{Packed, pack, accepted}
 
 -- rows r make ceil(r / rows per line) lines
 abbrev pub line-count : Kind → List ℤ → ℕ
@@ -15,7 +15,7 @@ line-count k col = ceil (length col) (k .per)
 
 -- the packed imprints of a column, with these borders
 abbrev pub packed-with : Kind → List ℤ → List ℤ → Packed
-packed-with k bs col = pack largest (imprints k bs col)
+packed-with k bs col = pack (k .full) (imprints k bs col)
 
 -- the imprints and the dictionary of the index that build makes, by the column's own borders
 abbrev pub built : Kind → List ℤ → Packed
@@ -23,7 +23,7 @@ built k col = packed-with k (borders k col) col
 
 -- the words ds, is are a packed form for a column of this length, with borders bs
 abbrev pub is-index-for : Kind → List ℤ → List ℤ → List ℕ → List ℕ → Bool
-is-index-for k bs col ds is = accepted largest (bins bs) (line-count k col) ds is
+is-index-for k bs col ds is = accepted (k .full) (bins bs) (line-count k col) ds is
 
 -- A column's own index: good borders, and words that are the packing of the column's imprints with them.
 pub record Own (k : Kind) (col bs : List ℤ) (is ds : List ℕ) : Type 0 where

@@ -11,7 +11,7 @@ use lib.Signed.{ltZ}
 use Rattle.words.specs.Numbers.{Number, numbered, done, low-above-high, column-too-long, no-index, space-too-short, bad-borders, covered-above-rows, most-rows}
 use Rattle.words.specs.Lists.{ceil, every, after}
 use Rattle.bins.specs.Bins.{Kind, most-lines, borders, good-borders, bins}
-use Rattle.dictionary.specs.Dictionary.{pack, unpack, largest, fit, accepted}
+use Rattle.dictionary.specs.Dictionary.{pack, unpack, fit, accepted}
 use Rattle.dictionary.specs.Told.{told-index}
 use Rattle.column_index.specs.Index.{built, is-index-for}
 use Rattle.column_index.specs.Extended.{extended-index}
@@ -92,7 +92,7 @@ append-answer k col covered bs is ti ds td =
     cond (ltb most-rows (length col)) appending.TooLong
     (cond (ltb (length col) covered) appending.CoveredAbove
     (cond (not (good-borders bs)) appending.BadBorders
-    (cond (not (told-index (bins bs) (ceil covered (k .per)) is ti ds td)) appending.NoIndex
+    (cond (not (told-index (k .full) (bins bs) (ceil covered (k .per)) is ti ds td)) appending.NoIndex
     (append-lengths (length (extended-index k bs col covered (take td ds) (take ti is) .imps)) (length (extended-index k bs col covered (take td ds) (take ti is) .dict)) (length is) (length ds)))))
 
 pub record Appends (k : Kind) (col : List ℤ) (covered : ℕ) (bs : List ℤ) (is : List ℕ) (ti : ℕ) (ds : List ℕ) (td : ℕ) (r : AppendAnswer) (is′ ds′ : List ℕ) : Type 0 where
@@ -127,12 +127,12 @@ unfoldable pub pack-answer : Kind → List ℕ → List ℤ → ℕ → ℕ → 
 pack-answer k ws bs si sd =
     cond (ltb (most-lines k) (length ws)) packing.TooLong
     (cond (not (good-borders bs)) packing.BadBorders
-    (cond (not (every (fit (bins bs)) ws)) packing.Unfit (pack-lengths (length (pack largest ws .imps)) (length (pack largest ws .dict)) si sd)))
+    (cond (not (every (fit (bins bs)) ws)) packing.Unfit (pack-lengths (length (pack (k .full) ws .imps)) (length (pack (k .full) ws .dict)) si sd)))
 
 pub record Packs (k : Kind) (ws : List ℕ) (bs : List ℤ) (is ds : List ℕ) (r : PackAnswer) (is′ ds′ : List ℕ) : Type 0 where
   pub answers : r ≡ pack-answer k ws bs (length is) (length ds)
-  pub imprints-after : is′ ≡ after (numbered (pack-number r)) (pack largest ws .imps) is
-  pub dictionary-after : ds′ ≡ after (numbered (pack-number r)) (pack largest ws .dict) ds
+  pub imprints-after : is′ ≡ after (numbered (pack-number r)) (pack (k .full) ws .imps) is
+  pub dictionary-after : ds′ ≡ after (numbered (pack-number r)) (pack (k .full) ws .dict) ds
 
 -- ---- unpack: 2, 5, 3, 4
 
@@ -155,7 +155,7 @@ unfoldable pub unpack-answer : Kind → List ℤ → List ℕ → List ℕ → �
 unpack-answer k bs is ds lines space =
     cond (ltb (most-lines k) lines) unpacking.TooLong
     (cond (not (good-borders bs)) unpacking.BadBorders
-    (cond (not (accepted largest (bins bs) lines ds is)) unpacking.NoIndex
+    (cond (not (accepted (k .full) (bins bs) lines ds is)) unpacking.NoIndex
     (cond (ltb space lines) (unpacking.Short lines) (unpacking.Done lines))))
 
 pub record Unpacks (k : Kind) (bs : List ℤ) (is ds : List ℕ) (lines : ℕ) (ws : List ℕ) (r : UnpackAnswer) (ws′ : List ℕ) : Type 0 where
@@ -206,7 +206,7 @@ pub record Searches (k : Kind) (col bs : List ℤ) (is ds : List ℕ) (low high 
 abbrev pub checked-rows : Kind → ℕ → List ℤ → List ℕ → List ℕ → IndexCheck
 checked-rows k rows bs is ds =
     cond (ltb most-rows rows) checking.TooLong
-    (cond (not (good-borders bs)) checking.BadBorders (cond (not (accepted largest (bins bs) (ceil rows (k .per)) ds is)) checking.NoIndex checking.Fine))
+    (cond (not (good-borders bs)) checking.BadBorders (cond (not (accepted (k .full) (bins bs) (ceil rows (k .per)) ds is)) checking.NoIndex checking.Fine))
 
 -- of words that are to be one for this column
 unfoldable pub checked-answer : Kind → List ℤ → List ℤ → List ℕ → List ℕ → IndexCheck

@@ -67,24 +67,27 @@ uses-one d r = rw r
 pub uses-all : (d : ℕ) → repeated d ≡ false → uses d ≡ count-of d
 uses-all d r = rw r
 
-module _ (d : ℕ) (is : List ℕ) (b : Before) (left : ℕ) where
-  pub high-bits : 2 ^ 25 ≤ d → false ≡ good-entry d is b left
+module _ (full d : ℕ) (is : List ℕ) (b : Before) (left : ℕ) where
+  pub high-bits : 2 ^ 25 ≤ d → false ≡ good-entry full d is b left
   high-bits h = rw (le-ltb d (2 ^ 25) h)
 
-  pub too-many : left < count-of d → false ≡ good-entry d is b left
-  too-many h = rw (lt-leb (count-of d) left h, and-false (ltb d (2 ^ 25)))
+  pub too-full : full < count-of d → false ≡ good-entry full d is b left
+  too-full h = rw (lt-leb (count-of d) full h, and-false (ltb d (2 ^ 25)))
 
-  pub too-short : length is < uses d → false ≡ good-entry d is b left
-  too-short h = rw (lt-leb (uses d) (length is) h, and-false (leb (count-of d) left), and-false (ltb d (2 ^ 25)))
+  pub too-many : left < count-of d → false ≡ good-entry full d is b left
+  too-many h = rw (lt-leb (count-of d) left h, and-false (leb (count-of d) full), and-false (ltb d (2 ^ 25)))
 
-  pub in-bounds : (r : Bool) → d < 2 ^ 25 → count-of d ≤ left → uses d ≤ length is → r ≡ cond (repeated d) (good-repeat b (count-of d) (getD is 0 0)) (good-plain b (take (count-of d) is)) → r ≡ good-entry d is b left
-  in-bounds r h m u e = e ∙ sym (rw (lt-ltb d (2 ^ 25) h, le-leb (count-of d) left m, le-leb (uses d) (length is) u))
+  pub too-short : length is < uses d → false ≡ good-entry full d is b left
+  too-short h = rw (lt-leb (uses d) (length is) h, and-false (leb (count-of d) left), and-false (leb (count-of d) full), and-false (ltb d (2 ^ 25)))
 
-  pub repeat-in-bounds : (r : Bool) (c : ℕ) → c ≡ count-of d → repeated d ≡ true → d < 2 ^ 25 → count-of d ≤ left → uses d ≤ length is → r ≡ good-repeat b c (getD is 0 0) → r ≡ good-entry d is b left
-  repeat-in-bounds r c n t h m u e = in-bounds r h m u (rw t (e ∙ ap (λ (k : ℕ). good-repeat b k (getD is 0 0)) n))
+  pub in-bounds : (r : Bool) → d < 2 ^ 25 → count-of d ≤ full → count-of d ≤ left → uses d ≤ length is → r ≡ cond (repeated d) (good-repeat b (count-of d) (getD is 0 0)) (good-plain b (take (count-of d) is)) → r ≡ good-entry full d is b left
+  in-bounds r h f m u e = e ∙ sym (rw (lt-ltb d (2 ^ 25) h, le-leb (count-of d) full f, le-leb (count-of d) left m, le-leb (uses d) (length is) u))
 
-  pub plain-in-bounds : (r : Bool) (c : ℕ) → c ≡ count-of d → repeated d ≡ false → d < 2 ^ 25 → count-of d ≤ left → uses d ≤ length is → r ≡ good-plain b (take c is) → r ≡ good-entry d is b left
-  plain-in-bounds r c n t h m u e = in-bounds r h m u (rw t (e ∙ ap (λ (k : ℕ). good-plain b (take k is)) n))
+  pub repeat-in-bounds : (r : Bool) (c : ℕ) → c ≡ count-of d → repeated d ≡ true → d < 2 ^ 25 → count-of d ≤ full → count-of d ≤ left → uses d ≤ length is → r ≡ good-repeat b c (getD is 0 0) → r ≡ good-entry full d is b left
+  repeat-in-bounds r c n t h f m u e = in-bounds r h f m u (rw t (e ∙ ap (λ (k : ℕ). good-repeat b k (getD is 0 0)) n))
+
+  pub plain-in-bounds : (r : Bool) (c : ℕ) → c ≡ count-of d → repeated d ≡ false → d < 2 ^ 25 → count-of d ≤ full → count-of d ≤ left → uses d ≤ length is → r ≡ good-plain b (take c is) → r ≡ good-entry full d is b left
+  plain-in-bounds r c n t h f m u e = in-bounds r h f m u (rw t (e ∙ ap (λ (k : ℕ). good-plain b (take k is)) n))
 
 -- what the program may lean on once an entry is good
 pub record Fits (d : ℕ) (is : List ℕ) (left : ℕ) : Type 0 where
@@ -92,11 +95,12 @@ pub record Fits (d : ℕ) (is : List ℕ) (left : ℕ) : Type 0 where
   pub has-all : uses d ≤ length is
   pub lines-left : count-of d ≤ left
 
-pub good-fits : (d : ℕ) (is : List ℕ) (b : Before) (left : ℕ) → good-entry d is b left ≡ true → Fits d is left
-good-fits d is b left e =
-    let h = and-eq-true-iff (ltb d (2 ^ 25) && (leb (count-of d) left && leb (uses d) (length is))) (cond (repeated d) (good-repeat b (count-of d) (getD is 0 0)) (good-plain b (take (count-of d) is))) .0 e in
-    let g = and-eq-true-iff (ltb d (2 ^ 25)) (leb (count-of d) left && leb (uses d) (length is)) .0 (h .0) in
-    let f = and-eq-true-iff (leb (count-of d) left) (leb (uses d) (length is)) .0 (g .1) in
+pub good-fits : (full d : ℕ) (is : List ℕ) (b : Before) (left : ℕ) → good-entry full d is b left ≡ true → Fits d is left
+good-fits full d is b left e =
+    let h = and-eq-true-iff (ltb d (2 ^ 25) && (leb (count-of d) full && (leb (count-of d) left && leb (uses d) (length is)))) (cond (repeated d) (good-repeat b (count-of d) (getD is 0 0)) (good-plain b (take (count-of d) is))) .0 e in
+    let g = and-eq-true-iff (ltb d (2 ^ 25)) (leb (count-of d) full && (leb (count-of d) left && leb (uses d) (length is))) .0 (h .0) in
+    let k = and-eq-true-iff (leb (count-of d) full) (leb (count-of d) left && leb (uses d) (length is)) .0 (g .1) in
+    let f = and-eq-true-iff (leb (count-of d) left) (leb (uses d) (length is)) .0 (k .1) in
     record { has-one = one (repeated d) (count-of d) (h .1); has-all = leb-true (uses d) (length is) (f .1); lines-left = leb-true (count-of d) left (f .0) }
   where
     one : (r : Bool) (c : ℕ) → cond r (good-repeat b c (getD is 0 0)) (good-plain b (take c is)) ≡ true → 1 ≤ cond r 1 c
@@ -106,37 +110,37 @@ good-fits d is b left e =
 
 -- ---- all entries
 
-module _ (ds is : List ℕ) (lines : ℕ) where
+module _ (full : ℕ) (ds is : List ℕ) (lines : ℕ) where
   -- the entries below `entry` are good, their imprints are those below `from`, and so many lines are left
   pub record Scanning (b : Before) (entry from left : ℕ) : Type 0 where
     pub entries-in : entry ≤ length ds
     pub imprints-in : from ≤ length is
-    pub to-come : scan (drop entry ds) (drop from is) b left ≡ scan ds is (preceding Start 0) lines
+    pub to-come : scan full (drop entry ds) (drop from is) b left ≡ scan full ds is (preceding Start 0) lines
 
   pub scanning-starts : Scanning (preceding Start 0) 0 0 lines
   scanning-starts = record { entries-in = omega arith; imprints-in = omega arith; to-come = refl }
 
   module _ (b : Before) (entry from left : ℕ) (m : Scanning b entry from left) where
     module _ (inside : entry < length ds) where
-      all-left : scan (drop entry ds) (drop from is) b left ≡ (good-entry (getD ds entry 0) (drop from is) b left && scan (drop (entry + 1) ds) (drop (uses (getD ds entry 0)) (drop from is)) (after-entry (getD ds entry 0) (drop from is) b) (left - count-of (getD ds entry 0)))
-      all-left = rw (add-one entry) (ap (λ (l : List ℕ). scan l (drop from is) b left) (drop-cons ds entry 0 inside))
+      all-left : scan full (drop entry ds) (drop from is) b left ≡ (good-entry full (getD ds entry 0) (drop from is) b left && scan full (drop (entry + 1) ds) (drop (uses (getD ds entry 0)) (drop from is)) (after-entry full (getD ds entry 0) (drop from is) b) (left - count-of (getD ds entry 0)))
+      all-left = rw (add-one entry) (ap (λ (l : List ℕ). scan full l (drop from is) b left) (drop-cons ds entry 0 inside))
 
-      pub scanning-refuses : good-entry (getD ds entry 0) (drop from is) b left ≡ false → false ≡ scan ds is (preceding Start 0) lines
+      pub scanning-refuses : good-entry full (getD ds entry 0) (drop from is) b left ≡ false → false ≡ scan full ds is (preceding Start 0) lines
       scanning-refuses e = sym (all-left ∙ rw e) ∙ m .to-come
 
-      pub scanning-turns : good-entry (getD ds entry 0) (drop from is) b left ≡ true → (b′ : Before) (u c : ℕ) → b′ ≡ after-entry (getD ds entry 0) (drop from is) b → u ≡ uses (getD ds entry 0) → c ≡ count-of (getD ds entry 0) → Scanning b′ (entry + 1) (from + u) (left - c)
+      pub scanning-turns : good-entry full (getD ds entry 0) (drop from is) b left ≡ true → (b′ : Before) (u c : ℕ) → b′ ≡ after-entry full (getD ds entry 0) (drop from is) b → u ≡ uses (getD ds entry 0) → c ≡ count-of (getD ds entry 0) → Scanning b′ (entry + 1) (from + u) (left - c)
       scanning-turns e b′ u c eb eu ec = record {
         entries-in = omega arith;
-        imprints-in = omega (arith, eu, good-fits (getD ds entry 0) (drop from is) b left e .has-all, length-drop from is, m .imprints-in);
+        imprints-in = omega (arith, eu, good-fits full (getD ds entry 0) (drop from is) b left e .has-all, length-drop from is, m .imprints-in);
         to-come = rw (eb, ec, sym (drop-drop u from is), eu) (sym (all-left ∙ rw e) ∙ m .to-come);
       }
 
     module _ (over : length ds ≤ entry) where
-      last-test : (eqb (length (drop from is)) 0 && eqb left 0) ≡ scan ds is (preceding Start 0) lines
-      last-test = sym (ap (λ (l : List ℕ). scan l (drop from is) b left) (drop-of-length-le ds {i = entry} over)) ∙ m .to-come
+      last-test : (eqb (length (drop from is)) 0 && eqb left 0) ≡ scan full ds is (preceding Start 0) lines
+      last-test = sym (ap (λ (l : List ℕ). scan full l (drop from is) b left) (drop-of-length-le ds {i = entry} over)) ∙ m .to-come
 
-      pub scanning-unused : from < length is → false ≡ scan ds is (preceding Start 0) lines
+      pub scanning-unused : from < length is → false ≡ scan full ds is (preceding Start 0) lines
       scanning-unused h = sym (rw (ne-eqb (length (drop from is)) 0 (λ e. omega (arith, length-drop from is)))) ∙ last-test
 
-      pub scanning-ends : length is ≤ from → eqb left 0 ≡ scan ds is (preceding Start 0) lines
+      pub scanning-ends : length is ≤ from → eqb left 0 ≡ scan full ds is (preceding Start 0) lines
       scanning-ends h = sym (rw (eq-eqb (length (drop from is)) 0 (omega (arith, length-drop from is)))) ∙ last-test

@@ -7,7 +7,6 @@ use native.Mathlib.Omega.{arith}
 use lib.Dec.{eqb}
 use lib.ListN.{length}
 use borrow.Author.Tests.{eq-eqb, ne-eqb}
-use Rattle.dictionary.specs.Dictionary.{largest}
 use Rattle.dictionary.specs.declared.packing.Open.{Open}
 use Rattle.dictionary.specs.declared.packing.Opened.{Opened}
 use Rattle.dictionary.specs.declared.packing.Turn.{Turn}
@@ -15,22 +14,22 @@ use Rattle.dictionary.specs.declared.packing.Packer.{Packer}
 use Rattle.dictionary.specs.loops.Packer.{move, move-on, last-of, last-word, settled, packer, after}
 
 -- the tests, in the order of the code
-module _ (k : Open) (t : Turn) (c x y : ℕ) where
+module _ (k : Open) (t : Turn) (full c x y : ℕ) where
   pub same-last : (f : Bool) → x ≡ y → t ≡ move k true f c x y → t ≡ move k (eqb x y) f c x y
   same-last f e h = rw (eq-eqb x y e) h
 
   pub other-last : (f : Bool) → (x ≡ y → ⊥) → t ≡ move k false f c x y → t ≡ move k (eqb x y) f c x y
   other-last f n h = rw (ne-eqb x y n) h
 
-  pub is-full : (b : Bool) → c ≡ largest → t ≡ move k b true c x y → t ≡ move k b (eqb c largest) c x y
-  is-full b e h = rw (eq-eqb c largest e) h
+  pub is-full : (b : Bool) → c ≡ full → t ≡ move k b true c x y → t ≡ move k b (eqb c full) c x y
+  is-full b e h = rw (eq-eqb c full e) h
 
-  pub not-full : (b : Bool) → (c ≡ largest → ⊥) → t ≡ move k b false c x y → t ≡ move k b (eqb c largest) c x y
-  not-full b n h = rw (ne-eqb c largest n) h
+  pub not-full : (b : Bool) → (c ≡ full → ⊥) → t ≡ move k b false c x y → t ≡ move k b (eqb c full) c x y
+  not-full b n h = rw (ne-eqb c full n) h
 
 -- the kind of the open entry
-pub by-kind : (s : Opened) (t : Turn) (y : ℕ) (k : Open) → s .kind ≡ k → t ≡ move k (eqb (s .last) y) (eqb (s .count) largest) (s .count) (s .last) y → t ≡ move-on largest s y
-by-kind s t y k e h = rw e h
+pub by-kind : (full : ℕ) (s : Opened) (t : Turn) (y : ℕ) (k : Open) → s .kind ≡ k → t ≡ move k (eqb (s .last) y) (eqb (s .count) full) (s .count) (s .last) y → t ≡ move-on full s y
+by-kind full s t y k e h = rw e h
 
 pub last-by-kind : (s : Opened) (n : ℕ) (k : Open) → s .kind ≡ k → n ≡ last-of k (s .count) → n ≡ last-word s
 last-by-kind s n k e h = rw e h

@@ -1,4 +1,4 @@
--- Document 01, "The packed line dictionary", with the largest count of an entry as a parameter. A list that document 01 takes is shorter than that, so no entry of it is full. Assumes nothing.
+-- Document 01, "The packed line dictionary", as request 107 of document 02 says it: with the largest count of an entry, 2 or more, as a parameter. Assumes nothing.
 use Prim.Native.Nat.{ℕ, zero, suc, _+_, _-_, _/_, _%_, _^_}
 use mathlib.Core.List.{List, [], _∷_, _++_, map}
 use mathlib.Core.Bool.{Bool, cond, _&&_}
@@ -6,10 +6,6 @@ use lib.Dec.{leb, ltb, eqb}
 use lib.ListN.{length, getD, replicate, take, drop}
 use Rattle.words.specs.Lists.{pieces, joined, every, same}
 use Rattle.words.specs.Bits.{odd}
-
--- the largest count that an entry's word has room for
-abbrev pub largest : ℕ
-largest = 2 ^ 24 - 1
 
 -- ---- longest runs of equal words
 

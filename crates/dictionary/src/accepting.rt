@@ -1,8 +1,9 @@
-// Which words are an index: all imprints are fit, and then one pass over the dictionary, entry by entry.
+// Which words are an index: all imprints are fit, and then one pass over the dictionary, entry by entry. `full` is the largest count of an entry.
 ghost use mathlib.Core.Path.{_≡_};
 ghost use Prim.Native.Nat.{_≤_};
 ghost use lib.ListN.{length, getD, take, drop};
-ghost use Rattle.dictionary.specs.Dictionary.{largest, accepted};
+ghost use Rattle.words.specs.Numbers.{Largest};
+ghost use Rattle.dictionary.specs.Dictionary.{accepted};
 ghost use Rattle.dictionary.specs.loops.Entries.{uses};
 ghost use Rattle.dictionary.specs.loops.Scan.{preceding, opens, goes-on, follows, neighbours, good-plain, good-repeat, good-entry, past-after, after-entry, scan};
 
@@ -106,13 +107,17 @@ fn repeat_good(word: u64, count: usize, b: Before) -> bool
 }
 
 // The entry may stand where it does, with so many lines left.
-fn entry_good(d: u32, words: &[u64], b: Before, left: usize) -> bool
-    ensures { λ r. ⌜ r ≡ good-entry d (now (words .entry)) b left ⌝ }
+fn entry_good(full: u32, d: u32, words: &[u64], b: Before, left: usize) -> bool
+    ensures { λ r. ⌜ r ≡ good-entry full d (now (words .entry)) b left ⌝ }
 {
     if 33554432 <= d {
         return false;
     }
-    let count = crate::count_of(d) as usize;
+    let lines = crate::count_of(d);
+    if full < lines {
+        return false;
+    }
+    let count = lines as usize;
     if left < count {
         return false;
     }
@@ -144,20 +149,20 @@ fn past_of(repeat: bool, full: bool, opened: bool) -> Past
 }
 
 // What the entry is to the next one.
-fn after(d: u32, words: &[u64], b: Before) -> Before
+fn after(full: u32, d: u32, words: &[u64], b: Before) -> Before
     requires { ⌜ (1 ≤ uses d) × (uses d ≤ length (now words)) ⌝ }
-    ensures { λ r. ⌜ r ≡ after-entry d (now (words .entry)) b ⌝ }
+    ensures { λ r. ⌜ r ≡ after-entry full d (now (words .entry)) b ⌝ }
 {
     let end = crate::unpacking::used(d) - 1;
     let opened = may_open(b, words[0]);
-    let past = past_of(crate::is_repeat(d), crate::count_of(d) == 16777215, opened);
+    let past = past_of(crate::is_repeat(d), crate::count_of(d) == full, opened);
     let last = words[end];
     Before { past, last }
 }
 
 // The entries stand as a packing's do, their imprints are all the imprints, and they have so many lines.
-fn scanned(dictionary: &[u32], imprints: &[u64], lines: usize) -> bool
-    ensures { λ r. ⌜ r ≡ scan (now (dictionary .entry)) (now (imprints .entry)) (preceding Past.Start 0) lines ⌝ }
+fn scanned(full: u32, dictionary: &[u32], imprints: &[u64], lines: usize) -> bool
+    ensures { λ r. ⌜ r ≡ scan full (now (dictionary .entry)) (now (imprints .entry)) (preceding Past.Start 0) lines ⌝ }
 {
     let mut b = Before {
         past: Past::Start,
@@ -169,10 +174,10 @@ fn scanned(dictionary: &[u32], imprints: &[u64], lines: usize) -> bool
     while entry < dictionary.len() {
         let d = dictionary[entry];
         let rest = crate::unpacking::rest_of(imprints, from);
-        if !entry_good(d, rest, b, left) {
+        if !entry_good(full, d, rest, b, left) {
             return false;
         }
-        b = after(d, rest, b);
+        b = after(full, d, rest, b);
         from += crate::unpacking::used(d);
         left -= crate::count_of(d) as usize;
         entry += 1;
@@ -184,12 +189,12 @@ fn scanned(dictionary: &[u32], imprints: &[u64], lines: usize) -> bool
 }
 
 // The words are an index with so many bins for so many lines.
-pub fn accepted(dictionary: &[u32], imprints: &[u64], bins: u32, lines: usize) -> bool
-    requires { ⌜ bins ≤ 64 ⌝ }
-    ensures { λ r. ⌜ r ≡ accepted largest bins lines (now (dictionary .entry)) (now (imprints .entry)) ⌝ }
+pub fn accepted(full: u32, dictionary: &[u32], imprints: &[u64], bins: u32, lines: usize) -> bool
+    requires { ⌜ Largest full × (bins ≤ 64) ⌝ }
+    ensures { λ r. ⌜ r ≡ accepted full bins lines (now (dictionary .entry)) (now (imprints .entry)) ⌝ }
 {
     if crate::fitting::all_fit(imprints, bins) {
-        return scanned(dictionary, imprints, lines);
+        return scanned(full, dictionary, imprints, lines);
     }
     false
 }

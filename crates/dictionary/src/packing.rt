@@ -1,11 +1,12 @@
-// Packing, one imprint at a time: the state is the entry that is still open, and how many words are settled.
+// Packing, one imprint at a time: the state is the entry that is still open, and how many words are settled. `full` is the largest count of an entry.
 ghost use mathlib.Core.Path.{_≡_};
 ghost use Prim.Native.Nat.{_+_, _^_, _<_, _≤_};
-ghost use mathlib.Core.Bool.{cond};
+ghost use mathlib.Core.Bool.{Bool, cond};
 ghost use lib.Dec.{eqb};
 ghost use lib.ListN.{length};
 ghost use lib.Seq.{sets};
-ghost use Rattle.dictionary.specs.Dictionary.{largest, pack};
+ghost use Rattle.words.specs.Numbers.{largest, Largest};
+ghost use Rattle.dictionary.specs.Dictionary.{pack};
 ghost use Rattle.dictionary.specs.loops.Packer.{packer, opened, turn, fresh, Steady, move, move-on, last-word, settled, added, after};
 
 // What is open: nothing yet; a plain entry; a repeat entry; one more line of a run whose entries are all full.
@@ -45,28 +46,28 @@ fn turn_of(kind: Open, count: u32, last: u64, word: u32, keeps: bool) -> Turn
 }
 
 // One more imprint after a plain entry.
-fn lone_turn(count: u32, last: u64, imprint: u64) -> Turn
+fn lone_turn(full: u32, count: u32, last: u64, imprint: u64) -> Turn
     requires { ⌜ (1 ≤ count) × (count ≤ largest) ⌝ }
-    ensures { λ r. ⌜ r ≡ move Open.Lone (eqb last imprint) (eqb count largest) count last imprint ⌝ }
+    ensures { λ r. ⌜ r ≡ move Open.Lone (eqb last imprint) (eqb count full) count last imprint ⌝ }
 {
     if last == imprint {
         return turn_of(Open::Run, 2, last, count - 1, false);
     }
-    if count == 16777215 {
+    if count == full {
         return turn_of(Open::Lone, 1, imprint, count, true);
     }
     turn_of(Open::Lone, count + 1, imprint, 0, true)
 }
 
 // One more imprint after a repeat entry.
-fn run_turn(count: u32, last: u64, imprint: u64) -> Turn
+fn run_turn(full: u32, count: u32, last: u64, imprint: u64) -> Turn
     requires { ⌜ count ≤ largest ⌝ }
-    ensures { λ r. ⌜ r ≡ move Open.Run (eqb last imprint) (eqb count largest) count last imprint ⌝ }
+    ensures { λ r. ⌜ r ≡ move Open.Run (eqb last imprint) (eqb count full) count last imprint ⌝ }
 {
     if last != imprint {
         return turn_of(Open::Lone, 1, imprint, count + 16777216, true);
     }
-    if count == 16777215 {
+    if count == full {
         return turn_of(Open::Spill, 1, last, count + 16777216, true);
     }
     turn_of(Open::Run, count + 1, last, 0, false)
@@ -74,7 +75,7 @@ fn run_turn(count: u32, last: u64, imprint: u64) -> Turn
 
 // One more imprint after one line of a run whose entries are all full.
 fn spill_turn(count: u32, last: u64, imprint: u64) -> Turn
-    ensures { λ r. ⌜ r ≡ move Open.Spill (eqb last imprint) (eqb count largest) count last imprint ⌝ }
+    ensures { λ r. ⌜ ((full : Bool) → r ≡ move Open.Spill (eqb last imprint) full count last imprint) ⌝ }
 {
     if last == imprint {
         return turn_of(Open::Run, 2, last, 0, false);
@@ -83,22 +84,22 @@ fn spill_turn(count: u32, last: u64, imprint: u64) -> Turn
 }
 
 // One more imprint.
-fn turned(state: Opened, imprint: u64) -> Turn
-    requires { ⌜ Steady state ⌝ }
-    ensures { λ r. ⌜ r ≡ move-on largest state imprint ⌝ }
+fn turned(full: u32, state: Opened, imprint: u64) -> Turn
+    requires { ⌜ Steady largest state ⌝ }
+    ensures { λ r. ⌜ r ≡ move-on full state imprint ⌝ }
 {
     let kind = state.kind;
     match kind {
         Open::Nothing => turn_of(Open::Lone, 1, imprint, 0, true),
-        Open::Lone => lone_turn(state.count, state.last, imprint),
-        Open::Run => run_turn(state.count, state.last, imprint),
+        Open::Lone => lone_turn(full, state.count, state.last, imprint),
+        Open::Run => run_turn(full, state.count, state.last, imprint),
         Open::Spill => spill_turn(state.count, state.last, imprint),
     }
 }
 
 // The word of the entry that is open in the end, 0 for none.
 fn closing(state: Opened) -> u32
-    requires { ⌜ Steady state ⌝ }
+    requires { ⌜ state .count ≤ largest ⌝ }
     ensures { λ r. ⌜ r ≡ last-word state ⌝ }
 {
     let kind = state.kind;
@@ -161,14 +162,14 @@ impl Packer {
     }
 
     // One more imprint, measured and not written.
-    pub fn counted(self, imprint: u64) -> Packer
-        requires { ⌜ Steady (self .state) ⌝ }
-        requires { ⌜ after self (move-on largest (self .state) imprint) .words < 2 ^ 64 ⌝ }
-        requires { ⌜ after self (move-on largest (self .state) imprint) .kept < 2 ^ 64 ⌝ }
-        ensures { λ r. ⌜ r ≡ after self (move-on largest (self .state) imprint) ⌝ }
+    pub fn counted(self, full: u32, imprint: u64) -> Packer
+        requires { ⌜ Steady largest (self .state) ⌝ }
+        requires { ⌜ after self (move-on full (self .state) imprint) .words < 2 ^ 64 ⌝ }
+        requires { ⌜ after self (move-on full (self .state) imprint) .kept < 2 ^ 64 ⌝ }
+        ensures { λ r. ⌜ r ≡ after self (move-on full (self .state) imprint) ⌝ }
     {
         let state = self.state;
-        let turn = turned(state, imprint);
+        let turn = turned(full, state, imprint);
         let next = turn.next;
         let words = more_words(self.words, turn.word);
         let kept = more_kept(self.kept, turn.keeps);
@@ -180,16 +181,22 @@ impl Packer {
     }
 
     // One more imprint: what it settles is written.
-    pub fn pushed(self, imprint: u64, imprints: &mut [u64], dictionary: &mut [u32]) -> Packer
-        requires { ⌜ Steady (self .state) ⌝ }
-        requires { ⌜ after self (move-on largest (self .state) imprint) .words ≤ length (now dictionary) ⌝ }
-        requires { ⌜ after self (move-on largest (self .state) imprint) .kept ≤ length (now imprints) ⌝ }
-        ensures { λ r. ⌜ r ≡ after self (move-on largest (self .state) imprint) ⌝ }
-        ensures { λ r. ⌜ now (imprints .exit) ≡ sets (now (imprints .entry)) (self .kept) (added (move-on largest (self .state) imprint .keeps) imprint) ⌝ }
-        ensures { λ r. ⌜ now (dictionary .exit) ≡ sets (now (dictionary .entry)) (self .words) (settled (move-on largest (self .state) imprint .word)) ⌝ }
+    pub fn pushed(
+        self,
+        full: u32,
+        imprint: u64,
+        imprints: &mut [u64],
+        dictionary: &mut [u32],
+    ) -> Packer
+        requires { ⌜ Steady largest (self .state) ⌝ }
+        requires { ⌜ after self (move-on full (self .state) imprint) .words ≤ length (now dictionary) ⌝ }
+        requires { ⌜ after self (move-on full (self .state) imprint) .kept ≤ length (now imprints) ⌝ }
+        ensures { λ r. ⌜ r ≡ after self (move-on full (self .state) imprint) ⌝ }
+        ensures { λ r. ⌜ now (imprints .exit) ≡ sets (now (imprints .entry)) (self .kept) (added (move-on full (self .state) imprint .keeps) imprint) ⌝ }
+        ensures { λ r. ⌜ now (dictionary .exit) ≡ sets (now (dictionary .entry)) (self .words) (settled (move-on full (self .state) imprint .word)) ⌝ }
     {
         let state = self.state;
-        let turn = turned(state, imprint);
+        let turn = turned(full, state, imprint);
         let next = turn.next;
         put_imprint(imprints, self.kept, turn.keeps, imprint);
         put_word(dictionary, self.words, turn.word);
@@ -204,7 +211,7 @@ impl Packer {
 
     // How many dictionary words there are in the end.
     pub fn ends(self) -> usize
-        requires { ⌜ Steady (self .state) ⌝ }
+        requires { ⌜ self .state .count ≤ largest ⌝ }
         requires { ⌜ self .words + length (settled (last-word (self .state))) < 2 ^ 64 ⌝ }
         ensures { λ r. ⌜ r ≡ self .words + length (settled (last-word (self .state))) ⌝ }
     {
@@ -214,7 +221,7 @@ impl Packer {
 
     // The last word is written.
     pub fn closed(self, dictionary: &mut [u32])
-        requires { ⌜ Steady (self .state) ⌝ }
+        requires { ⌜ self .state .count ≤ largest ⌝ }
         requires { ⌜ self .words + length (settled (last-word (self .state))) ≤ length (now dictionary) ⌝ }
         ensures { λ r. ⌜ now (dictionary .exit) ≡ sets (now (dictionary .entry)) (self .words) (settled (last-word (self .state))) ⌝ }
     {
@@ -230,14 +237,15 @@ pub struct Lengths {
 }
 
 // How long the packing of a list of imprints is.
-pub fn measured(list: &[u64]) -> Lengths
-    ensures { λ r. ⌜ r .imprints ≡ length (pack largest (now (list .entry)) .imps) ⌝ }
-    ensures { λ r. ⌜ r .dictionary ≡ length (pack largest (now (list .entry)) .dict) ⌝ }
+pub fn measured(full: u32, list: &[u64]) -> Lengths
+    requires { ⌜ Largest full ⌝ }
+    ensures { λ r. ⌜ r .imprints ≡ length (pack full (now (list .entry)) .imps) ⌝ }
+    ensures { λ r. ⌜ r .dictionary ≡ length (pack full (now (list .entry)) .dict) ⌝ }
 {
     let mut packer = Packer::new();
     let mut i = 0;
     while i < list.len() {
-        packer = packer.counted(list[i]);
+        packer = packer.counted(full, list[i]);
         i += 1;
     }
     let dictionary = packer.ends();
@@ -248,16 +256,17 @@ pub fn measured(list: &[u64]) -> Lengths
 }
 
 // The packing of a list of imprints, into two spaces that are long enough.
-pub fn write(list: &[u64], imprints: &mut [u64], dictionary: &mut [u32])
-    requires { ⌜ length (pack largest (now list) .imps) ≤ length (now imprints) ⌝ }
-    requires { ⌜ length (pack largest (now list) .dict) ≤ length (now dictionary) ⌝ }
-    ensures { λ r. ⌜ now (imprints .exit) ≡ sets (now (imprints .entry)) 0 (pack largest (now (list .entry)) .imps) ⌝ }
-    ensures { λ r. ⌜ now (dictionary .exit) ≡ sets (now (dictionary .entry)) 0 (pack largest (now (list .entry)) .dict) ⌝ }
+pub fn write(full: u32, list: &[u64], imprints: &mut [u64], dictionary: &mut [u32])
+    requires { ⌜ Largest full ⌝ }
+    requires { ⌜ length (pack full (now list) .imps) ≤ length (now imprints) ⌝ }
+    requires { ⌜ length (pack full (now list) .dict) ≤ length (now dictionary) ⌝ }
+    ensures { λ r. ⌜ now (imprints .exit) ≡ sets (now (imprints .entry)) 0 (pack full (now (list .entry)) .imps) ⌝ }
+    ensures { λ r. ⌜ now (dictionary .exit) ≡ sets (now (dictionary .entry)) 0 (pack full (now (list .entry)) .dict) ⌝ }
 {
     let mut packer = Packer::new();
     let mut i = 0;
     while i < list.len() {
-        packer = packer.pushed(list[i], imprints, dictionary);
+        packer = packer.pushed(full, list[i], imprints, dictionary);
         i += 1;
     }
     packer.closed(dictionary);

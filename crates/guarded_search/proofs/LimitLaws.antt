@@ -11,7 +11,7 @@ use Rattle.words.specs.declared.Row.{Row}
 use Rattle.words.specs.Numbers.{numbered, most-rows}
 use Rattle.words.specs.Lists.{ceil, every}
 use Rattle.bins.specs.Bins.{readings, most-lines, borders, good-borders, bins}
-use Rattle.dictionary.specs.Dictionary.{pack, largest, fit, accepted}
+use Rattle.dictionary.specs.Dictionary.{pack, fit, accepted}
 use Rattle.dictionary.specs.Told.{told-index}
 use Rattle.run_search.specs.Search.{search-by}
 use Rattle.column_index.specs.Index.{built, is-index-for}
@@ -47,7 +47,7 @@ unfolding append-answer
 append-two col bs is ds covered ti td =
     let i = length (extended-index readings bs col covered (take td ds) (take ti is) .imps) in
     let d = length (extended-index readings bs col covered (take td ds) (take ti is) .dict) in
-    go i d (ltb most-rows (length col)) (ltb (length col) covered) (good-borders bs) (told-index (bins bs) (ceil covered (readings .per)) is ti ds td) (ltb (length is) i) (ltb (length ds) d)
+    go i d (ltb most-rows (length col)) (ltb (length col) covered) (good-borders bs) (told-index (readings .full) (bins bs) (ceil covered (readings .per)) is ti ds td) (ltb (length is) i) (ltb (length ds) d)
   where
     go : (i d : ℕ) (t c g o y z : Bool) → eqb (numbered (append-number (cond t appending.TooLong (cond c appending.CoveredAbove (cond (not g) appending.BadBorders (cond (not o) appending.NoIndex (cond y (appending.ImprintsShort i) (cond z (appending.DictionaryShort d) (appending.Done i d))))))))) 2 ≡ t
     go i d true c g o y z = refl
@@ -88,8 +88,8 @@ register-two col space =
 pub pack-two : (ws : List ℕ) (bs : List ℤ) (si sd : ℕ) → eqb (numbered (pack-number (pack-answer readings ws bs si sd))) 2 ≡ ltb (most-lines readings) (length ws)
 unfolding pack-answer
 pack-two ws bs si sd =
-    let i = length (pack largest ws .imps) in
-    let d = length (pack largest ws .dict) in
+    let i = length (pack (readings .full) ws .imps) in
+    let d = length (pack (readings .full) ws .dict) in
     go i d (ltb (most-lines readings) (length ws)) (good-borders bs) (every (fit (bins bs)) ws) (ltb si i) (ltb sd d)
   where
     go : (i d : ℕ) (t g f y z : Bool) → eqb (numbered (pack-number (cond t packing.TooLong (cond (not g) packing.BadBorders (cond (not f) packing.Unfit (cond y (packing.ImprintsShort i) (cond z (packing.DictionaryShort d) (packing.Done i d)))))))) 2 ≡ t
@@ -102,7 +102,7 @@ pack-two ws bs si sd =
 
 pub unpack-two : (bs : List ℤ) (is ds : List ℕ) (lines space : ℕ) → eqb (numbered (unpack-number (unpack-answer readings bs is ds lines space))) 2 ≡ ltb (most-lines readings) lines
 unfolding unpack-answer
-unpack-two bs is ds lines space = go lines (ltb (most-lines readings) lines) (good-borders bs) (accepted largest (bins bs) lines ds is) (ltb space lines)
+unpack-two bs is ds lines space = go lines (ltb (most-lines readings) lines) (good-borders bs) (accepted (readings .full) (bins bs) lines ds is) (ltb space lines)
   where
     go : (n : ℕ) (t g o z : Bool) → eqb (numbered (unpack-number (cond t unpacking.TooLong (cond (not g) unpacking.BadBorders (cond (not o) unpacking.NoIndex (cond z (unpacking.Short n) (unpacking.Done n))))))) 2 ≡ t
     go n true g o z = refl

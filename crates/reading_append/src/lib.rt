@@ -25,10 +25,11 @@ fn extend(
     dictionary_told: usize,
 ) -> AppendAnswer
     requires { ⌜ (length (now column) ≤ most-rows) × (covered ≤ length (now column)) × (good-borders (now borders) ≡ true) ⌝ }
-    requires { ⌜ told-index (bins (now borders)) (ceil covered (readings .per)) (now imprints) «imprints_told» (now dictionary) «dictionary_told» ≡ true ⌝ }
+    requires { ⌜ told-index (readings .full) (bins (now borders)) (ceil covered (readings .per)) (now imprints) «imprints_told» (now dictionary) «dictionary_told» ≡ true ⌝ }
     ensures { λ r. ⌜ Appends readings (now (column .entry)) covered (now (borders .entry)) (now (imprints .entry)) «imprints_told» (now (dictionary .entry)) «dictionary_told» r (now (imprints .exit)) (now (dictionary .exit)) ⌝ }
 {
     let before = told_words::after_lines(
+        words::LARGEST,
         &imprints[..imprints_told],
         &dictionary[..dictionary_told],
         covered % PER != 0,
@@ -75,6 +76,7 @@ pub fn append(
     let n = reading_bins::bin_count(borders);
     let lines = reading_lines::line_count(covered);
     if !told_words::is_index(
+        words::LARGEST,
         imprints,
         imprints_told,
         dictionary,

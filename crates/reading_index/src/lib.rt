@@ -31,6 +31,7 @@ pub fn checked_rows(
     if reading_bins::good_borders(borders) {
         let n = reading_bins::bin_count(borders);
         if dictionary::accepting::accepted(
+            words::LARGEST,
             dictionary,
             imprints,
             n,

@@ -99,14 +99,14 @@ pub fn pack(
     if !dictionary::fitting::all_fit(list, reading_bins::bin_count(borders)) {
         return PackAnswer::Unfit;
     }
-    let need = dictionary::packing::measured(list);
+    let need = dictionary::packing::measured(words::LARGEST, list);
     if imprints.len() < need.imprints {
         return PackAnswer::ImprintsShort(need.imprints);
     }
     if dictionary.len() < need.dictionary {
         return PackAnswer::DictionaryShort(need.dictionary);
     }
-    dictionary::packing::write(list, imprints, dictionary);
+    dictionary::packing::write(words::LARGEST, list, imprints, dictionary);
     PackAnswer::Done {
         imprints: need.imprints,
         dictionary: need.dictionary,
@@ -130,6 +130,7 @@ pub fn unpack(
         return UnpackAnswer::BadBorders;
     }
     if !dictionary::accepting::accepted(
+        words::LARGEST,
         dictionary,
         imprints,
         reading_bins::bin_count(borders),

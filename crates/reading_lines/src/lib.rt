@@ -6,6 +6,7 @@ use dictionary::packing::Packer;
 use reading_bins::kind::PER;
 use reading_imprints::imprint_at;
 use reading_imprints::tree::tree_of;
+use words::LARGEST;
 ghost use mathlib.Core.Path.{_≡_};
 ghost use Prim.Native.Nat.{_+_, _^_, _<_, _≤_};
 ghost use lib.ListN.{length};
@@ -13,7 +14,6 @@ ghost use lib.Seq.{sets};
 ghost use Rattle.words.specs.Lists.{ceil};
 ghost use Rattle.words.specs.Numbers.{most-rows};
 ghost use Rattle.bins.specs.Bins.{readings};
-ghost use Rattle.dictionary.specs.Dictionary.{largest};
 ghost use Rattle.dictionary.specs.loops.Packer.{Steady, kept-then, words-then, imps-from, dict-from};
 ghost use Rattle.column_index.specs.Extended.{imprints-from};
 ghost use Rattle.column_index.specs.loops.Going.{Goes-on};
@@ -28,11 +28,11 @@ pub fn line_count(rows: usize) -> usize
 
 // How long a packing becomes that goes on with the lines of a column from `first` on, imprinted with these borders.
 fn measure_lines(column: &[i32], borders: &[i32], before: Packer, first: Line) -> Lengths
-    requires { ⌜ (length (now column) ≤ most-rows) × (length (now borders) ≤ 63) × Steady (before .state) ⌝ }
-    requires { ⌜ kept-then largest before (imprints-from readings (now borders) (now column) (first .0)) < 2 ^ 64 ⌝ }
-    requires { ⌜ words-then largest before (imprints-from readings (now borders) (now column) (first .0)) < 2 ^ 64 ⌝ }
-    ensures { λ r. ⌜ r .imprints ≡ kept-then largest before (imprints-from readings (now (borders .entry)) (now (column .entry)) (first .0)) ⌝ }
-    ensures { λ r. ⌜ r .dictionary ≡ words-then largest before (imprints-from readings (now (borders .entry)) (now (column .entry)) (first .0)) ⌝ }
+    requires { ⌜ (length (now column) ≤ most-rows) × (length (now borders) ≤ 63) × Steady (readings .full) (before .state) ⌝ }
+    requires { ⌜ kept-then (readings .full) before (imprints-from readings (now borders) (now column) (first .0)) < 2 ^ 64 ⌝ }
+    requires { ⌜ words-then (readings .full) before (imprints-from readings (now borders) (now column) (first .0)) < 2 ^ 64 ⌝ }
+    ensures { λ r. ⌜ r .imprints ≡ kept-then (readings .full) before (imprints-from readings (now (borders .entry)) (now (column .entry)) (first .0)) ⌝ }
+    ensures { λ r. ⌜ r .dictionary ≡ words-then (readings .full) before (imprints-from readings (now (borders .entry)) (now (column .entry)) (first .0)) ⌝ }
 {
     let lines = line_count(column.len());
     let nodes = tree_of(borders);
@@ -40,7 +40,7 @@ fn measure_lines(column: &[i32], borders: &[i32], before: Packer, first: Line) -
     let mut i: usize = first.0;
     while i < lines {
         let last = measuring.state.last;
-        measuring = measuring.counted(imprint_at(column, Line(i), borders, &nodes, last));
+        measuring = measuring.counted(LARGEST, imprint_at(column, Line(i), borders, &nodes, last));
         i += 1;
     }
     let dictionary = measuring.ends();
@@ -59,13 +59,13 @@ fn write_lines(
     imprints: &mut [u64],
     dictionary: &mut [u32],
 ) -> Lengths
-    requires { ⌜ (length (now column) ≤ most-rows) × (length (now borders) ≤ 63) × Steady (before .state) ⌝ }
-    requires { ⌜ kept-then largest before (imprints-from readings (now borders) (now column) (first .0)) ≤ length (now imprints) ⌝ }
-    requires { ⌜ words-then largest before (imprints-from readings (now borders) (now column) (first .0)) ≤ length (now dictionary) ⌝ }
-    ensures { λ r. ⌜ now (imprints .exit) ≡ sets (now (imprints .entry)) (before .kept) (imps-from largest (before .state) (imprints-from readings (now (borders .entry)) (now (column .entry)) (first .0))) ⌝ }
-    ensures { λ r. ⌜ now (dictionary .exit) ≡ sets (now (dictionary .entry)) (before .words) (dict-from largest (before .state) (imprints-from readings (now (borders .entry)) (now (column .entry)) (first .0))) ⌝ }
-    ensures { λ r. ⌜ r .imprints ≡ kept-then largest before (imprints-from readings (now (borders .entry)) (now (column .entry)) (first .0)) ⌝ }
-    ensures { λ r. ⌜ r .dictionary ≡ words-then largest before (imprints-from readings (now (borders .entry)) (now (column .entry)) (first .0)) ⌝ }
+    requires { ⌜ (length (now column) ≤ most-rows) × (length (now borders) ≤ 63) × Steady (readings .full) (before .state) ⌝ }
+    requires { ⌜ kept-then (readings .full) before (imprints-from readings (now borders) (now column) (first .0)) ≤ length (now imprints) ⌝ }
+    requires { ⌜ words-then (readings .full) before (imprints-from readings (now borders) (now column) (first .0)) ≤ length (now dictionary) ⌝ }
+    ensures { λ r. ⌜ now (imprints .exit) ≡ sets (now (imprints .entry)) (before .kept) (imps-from (readings .full) (before .state) (imprints-from readings (now (borders .entry)) (now (column .entry)) (first .0))) ⌝ }
+    ensures { λ r. ⌜ now (dictionary .exit) ≡ sets (now (dictionary .entry)) (before .words) (dict-from (readings .full) (before .state) (imprints-from readings (now (borders .entry)) (now (column .entry)) (first .0))) ⌝ }
+    ensures { λ r. ⌜ r .imprints ≡ kept-then (readings .full) before (imprints-from readings (now (borders .entry)) (now (column .entry)) (first .0)) ⌝ }
+    ensures { λ r. ⌜ r .dictionary ≡ words-then (readings .full) before (imprints-from readings (now (borders .entry)) (now (column .entry)) (first .0)) ⌝ }
 {
     let lines = line_count(column.len());
     let nodes = tree_of(borders);
@@ -74,7 +74,7 @@ fn write_lines(
     while i < lines {
         let last = packer.state.last;
         let imprint = imprint_at(column, Line(i), borders, &nodes, last);
-        packer = packer.pushed(imprint, imprints, dictionary);
+        packer = packer.pushed(LARGEST, imprint, imprints, dictionary);
         i += 1;
     }
     packer.closed(dictionary);
@@ -94,10 +94,10 @@ fn fill(
     imprints: &mut [u64],
     dictionary: &mut [u32],
 ) -> Spaces
-    requires { ⌜ (length (now column) ≤ most-rows) × (length (now borders) ≤ 63) × Steady (before .state) ⌝ }
-    requires { ⌜ kept-then largest before (imprints-from readings (now borders) (now column) (first .0)) ≤ length (now imprints) ⌝ }
-    requires { ⌜ words-then largest before (imprints-from readings (now borders) (now column) (first .0)) ≤ length (now dictionary) ⌝ }
-    ensures { λ r. ⌜ Goes-on before (imprints-from readings (now (borders .entry)) (now (column .entry)) (first .0)) (now (imprints .entry)) (now (dictionary .entry)) r (now (imprints .exit)) (now (dictionary .exit)) ⌝ }
+    requires { ⌜ (length (now column) ≤ most-rows) × (length (now borders) ≤ 63) × Steady (readings .full) (before .state) ⌝ }
+    requires { ⌜ kept-then (readings .full) before (imprints-from readings (now borders) (now column) (first .0)) ≤ length (now imprints) ⌝ }
+    requires { ⌜ words-then (readings .full) before (imprints-from readings (now borders) (now column) (first .0)) ≤ length (now dictionary) ⌝ }
+    ensures { λ r. ⌜ Goes-on (readings .full) before (imprints-from readings (now (borders .entry)) (now (column .entry)) (first .0)) (now (imprints .entry)) (now (dictionary .entry)) r (now (imprints .exit)) (now (dictionary .exit)) ⌝ }
 {
     let n = write_lines(column, borders, before, first, imprints, dictionary);
     Spaces::Filled {
@@ -115,10 +115,10 @@ fn measure_and_fill(
     imprints: &mut [u64],
     dictionary: &mut [u32],
 ) -> Spaces
-    requires { ⌜ (length (now column) ≤ most-rows) × (length (now borders) ≤ 63) × Steady (before .state) ⌝ }
-    requires { ⌜ kept-then largest before (imprints-from readings (now borders) (now column) (first .0)) < 2 ^ 64 ⌝ }
-    requires { ⌜ words-then largest before (imprints-from readings (now borders) (now column) (first .0)) < 2 ^ 64 ⌝ }
-    ensures { λ r. ⌜ Goes-on before (imprints-from readings (now (borders .entry)) (now (column .entry)) (first .0)) (now (imprints .entry)) (now (dictionary .entry)) r (now (imprints .exit)) (now (dictionary .exit)) ⌝ }
+    requires { ⌜ (length (now column) ≤ most-rows) × (length (now borders) ≤ 63) × Steady (readings .full) (before .state) ⌝ }
+    requires { ⌜ kept-then (readings .full) before (imprints-from readings (now borders) (now column) (first .0)) < 2 ^ 64 ⌝ }
+    requires { ⌜ words-then (readings .full) before (imprints-from readings (now borders) (now column) (first .0)) < 2 ^ 64 ⌝ }
+    ensures { λ r. ⌜ Goes-on (readings .full) before (imprints-from readings (now (borders .entry)) (now (column .entry)) (first .0)) (now (imprints .entry)) (now (dictionary .entry)) r (now (imprints .exit)) (now (dictionary .exit)) ⌝ }
 {
     let need = measure_lines(column, borders, before, first);
     if imprints.len() < need.imprints {
@@ -140,11 +140,11 @@ pub fn pack_lines(
     imprints: &mut [u64],
     dictionary: &mut [u32],
 ) -> Spaces
-    requires { ⌜ (length (now column) ≤ most-rows) × (length (now borders) ≤ 63) × Steady (before .state) ⌝ }
+    requires { ⌜ (length (now column) ≤ most-rows) × (length (now borders) ≤ 63) × Steady (readings .full) (before .state) ⌝ }
     requires { ⌜ (first .0 ≤ ceil (length (now column)) (readings .per)) × (told .imprints ≤ length (now imprints)) × (told .dictionary ≤ length (now dictionary)) ⌝ }
-    requires { ⌜ kept-then largest before (imprints-from readings (now borders) (now column) (first .0)) ≤ told .imprints + length (imprints-from readings (now borders) (now column) (first .0)) ⌝ }
-    requires { ⌜ words-then largest before (imprints-from readings (now borders) (now column) (first .0)) ≤ told .dictionary + length (imprints-from readings (now borders) (now column) (first .0)) ⌝ }
-    ensures { λ r. ⌜ Goes-on before (imprints-from readings (now (borders .entry)) (now (column .entry)) (first .0)) (now (imprints .entry)) (now (dictionary .entry)) r (now (imprints .exit)) (now (dictionary .exit)) ⌝ }
+    requires { ⌜ kept-then (readings .full) before (imprints-from readings (now borders) (now column) (first .0)) ≤ told .imprints + length (imprints-from readings (now borders) (now column) (first .0)) ⌝ }
+    requires { ⌜ words-then (readings .full) before (imprints-from readings (now borders) (now column) (first .0)) ≤ told .dictionary + length (imprints-from readings (now borders) (now column) (first .0)) ⌝ }
+    ensures { λ r. ⌜ Goes-on (readings .full) before (imprints-from readings (now (borders .entry)) (now (column .entry)) (first .0)) (now (imprints .entry)) (now (dictionary .entry)) r (now (imprints .exit)) (now (dictionary .exit)) ⌝ }
 {
     let lines = line_count(column.len()) - first.0;
     if imprints.len() - told.imprints < lines {

@@ -5,6 +5,9 @@ ghost use Rattle.words.specs.Bytes.{signed, unsigned};
 // The most rows that a column may have.
 pub const MOST_ROWS: usize = 4294967295;
 
+// The largest count of a dictionary entry. What packs, accepts and goes on takes it as a parameter, `full`, of 2 or more.
+pub const LARGEST: u32 = 16777215;
+
 // A row's number: never a line's, and never a place in words.
 pub struct Row(pub usize);
 

@@ -6,7 +6,6 @@ use mathlib.Core.Bool.{cond}
 use lib.Dec.{ltb}
 use lib.ListN.{length}
 use lib.Seq.{sets}
-use Rattle.dictionary.specs.Dictionary.{largest}
 use Rattle.dictionary.specs.declared.packing.Packer.{Packer}
 use Rattle.dictionary.specs.loops.Packer.{imps-from, dict-from, kept-then, words-then}
 use Rattle.column_index.specs.declared.Spaces.{Spaces}
@@ -23,7 +22,7 @@ put-on (ImprintsShort i) l n vs = l
 put-on (DictionaryShort d) l n vs = l
 
 -- the packer p goes on with the imprints ws
-pub record Goes-on (p : Packer) (ws is ds : List ℕ) (r : Spaces) (is′ ds′ : List ℕ) : Type 0 where
-  pub answers : r ≡ spaces (kept-then largest p ws) (words-then largest p ws) (length is) (length ds)
-  pub imprints-after : is′ ≡ put-on r is (p .kept) (imps-from largest (p .state) ws)
-  pub dictionary-after : ds′ ≡ put-on r ds (p .words) (dict-from largest (p .state) ws)
+pub record Goes-on (full : ℕ) (p : Packer) (ws is ds : List ℕ) (r : Spaces) (is′ ds′ : List ℕ) : Type 0 where
+  pub answers : r ≡ spaces (kept-then full p ws) (words-then full p ws) (length is) (length ds)
+  pub imprints-after : is′ ≡ put-on r is (p .kept) (imps-from full (p .state) ws)
+  pub dictionary-after : ds′ ≡ put-on r ds (p .words) (dict-from full (p .state) ws)

@@ -4,7 +4,6 @@ use mathlib.Core.List.{List, [], _∷_, _++_}
 use mathlib.Core.Bool.{Bool, true, false, cond}
 use lib.Dec.{eqb}
 use lib.ListN.{length}
-use Rattle.dictionary.specs.Dictionary.{largest}
 use Rattle.dictionary.specs.declared.packing.Open.{Open}
 use Rattle.dictionary.specs.declared.packing.Open.the-variants.{Nothing, Lone, Run, Spill}
 use Rattle.dictionary.specs.declared.packing.Opened.{Opened}
@@ -22,8 +21,8 @@ abbrev pub fresh : Opened
 fresh = opened Nothing 1 0
 
 -- what holds of the open entry all the way
-abbrev pub Steady : Opened → Type 0
-Steady s = (1 ≤ s .count) × (s .count ≤ largest)
+abbrev pub Steady : ℕ → Opened → Type 0
+Steady full s = (1 ≤ s .count) × (s .count ≤ full)
 
 -- after one more imprint: the open entry, the dictionary word that is now settled (0 for none), whether the imprint is kept.
 -- Tests: the imprint equals the last; the open entry is full.

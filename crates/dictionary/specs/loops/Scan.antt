@@ -4,7 +4,7 @@ use mathlib.Core.List.{List, [], _∷_}
 use mathlib.Core.Bool.{Bool, true, false, cond, not, _&&_}
 use lib.Dec.{leb, ltb, eqb}
 use lib.ListN.{length, getD, take, drop}
-use Rattle.dictionary.specs.Dictionary.{largest, count-of, repeated}
+use Rattle.dictionary.specs.Dictionary.{count-of, repeated}
 use Rattle.dictionary.specs.loops.Entries.{uses}
 use Rattle.dictionary.specs.declared.accepting.Past.{Past}
 use Rattle.dictionary.specs.declared.accepting.Past.the-variants.{Start, Short, FullRun, Other}
@@ -49,9 +49,9 @@ abbrev pub good-repeat : Before → ℕ → ℕ → Bool
 good-repeat b c w = follows (b .past) (b .last) w && leb 2 c
 
 -- the entry with word d and the imprints from its first on, with so many lines left
-abbrev pub good-entry : ℕ → List ℕ → Before → ℕ → Bool
-good-entry d is b left =
-    (ltb d (2 ^ 25) && (leb (count-of d) left && leb (uses d) (length is)))
+abbrev pub good-entry : ℕ → ℕ → List ℕ → Before → ℕ → Bool
+good-entry full d is b left =
+    (ltb d (2 ^ 25) && (leb (count-of d) full && (leb (count-of d) left && leb (uses d) (length is))))
     && cond (repeated d) (good-repeat b (count-of d) (getD is 0 0)) (good-plain b (take (count-of d) is))
 
 -- what an entry is to the next; its mark, whether it is full, whether it began as a plain one
@@ -59,10 +59,10 @@ abbrev pub past-after : Bool → Bool → Bool → Past
 past-after true full opened = cond full FullRun Other
 past-after false full opened = cond opened (cond full Other Short) Other
 
-abbrev pub after-entry : ℕ → List ℕ → Before → Before
-after-entry d is b = preceding (past-after (repeated d) (eqb (count-of d) largest) (opens (b .past) (b .last) (getD is 0 0))) (getD is (uses d - 1) 0)
+abbrev pub after-entry : ℕ → ℕ → List ℕ → Before → Before
+after-entry full d is b = preceding (past-after (repeated d) (eqb (count-of d) full) (opens (b .past) (b .last) (getD is 0 0))) (getD is (uses d - 1) 0)
 
 -- the entries after b are good, one by one, and no imprint and no line is left over
-abbrev pub scan : List ℕ → List ℕ → Before → ℕ → Bool
-scan [] is b left = eqb (length is) 0 && eqb left 0
-scan (d ∷ ds) is b left = good-entry d is b left && scan ds (drop (uses d) is) (after-entry d is b) (left - count-of d)
+abbrev pub scan : ℕ → List ℕ → List ℕ → Before → ℕ → Bool
+scan full [] is b left = eqb (length is) 0 && eqb left 0
+scan full (d ∷ ds) is b left = good-entry full d is b left && scan full ds (drop (uses d) is) (after-entry full d is b) (left - count-of d)

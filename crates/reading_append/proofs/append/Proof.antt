@@ -18,10 +18,10 @@ good : (c : tie.Else3) → good-borders (c .before .before .before .before .befo
 good c = let g = c .before .good-borders in sym (g .ensures) ∙ not-false (g .result) (c .if3 .left)
 
 -- the test is by the number of bins and of lines
-told : (c : tie.After-is-index) → let a = c .before .before .before .before .before .before .before .before .before .before .before .args in told-index (bins (a .borders .now)) (ceil (a .covered) (readings .per)) (a .imprints .now) (a .imprints-told) (a .dictionary .now) (a .dictionary-told) ≡ c .is-index .result
+told : (c : tie.After-is-index) → let a = c .before .before .before .before .before .before .before .before .before .before .before .args in told-index (readings .full) (bins (a .borders .now)) (ceil (a .covered) (readings .per)) (a .imprints .now) (a .imprints-told) (a .dictionary .now) (a .dictionary-told) ≡ c .is-index .result
 told c =
     let a = c .before .before .before .before .before .before .before .before .before .before .before .args in
-    sym (c .is-index .ensures ∙ ap₂ (λ (n l : ℕ). told-index n l (a .imprints .now) (a .imprints-told) (a .dictionary .now) (a .dictionary-told)) (c .before .before .before .before .bin-count .ensures) (c .before .before .before .line-count .ensures))
+    sym (c .is-index .ensures ∙ ap₂ (λ (n l : ℕ). told-index (readings .full) n l (a .imprints .now) (a .imprints-told) (a .dictionary .now) (a .dictionary-told)) (c .before .before .before .before .bin-count .ensures) (c .before .before .before .line-count .ensures))
 
 returns : tie.Need-returns
 returns c = let a = c .before .before .before .args in append-too-long readings (a .column .now) (a .covered) (a .borders .now) (a .imprints .now) (a .imprints-told) (a .dictionary .now) (a .dictionary-told) (c .if1 .taken)

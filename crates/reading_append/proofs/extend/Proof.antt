@@ -6,7 +6,7 @@ use lib.Seq.{length-take-le}
 use borrow.Author.Needs.{needs}
 use Rattle.words.specs.Lists.{ceil}
 use Rattle.bins.specs.Bins.{readings, bins}
-use Rattle.dictionary.specs.Dictionary.{largest, unpack}
+use Rattle.dictionary.specs.Dictionary.{unpack}
 use Rattle.dictionary.specs.loops.Packer.{gone-on, starting}
 use Rattle.dictionary.proofs.ToldLaws.{told-known}
 use Rattle.column_index.specs.Extended.{full-lines}
@@ -17,27 +17,27 @@ use Rattle.reading_append.proofs.extend.Statement.{statement}
 use Rattle.reading_append.proofs.extend.Tie as tie
 
 slice-reshare-prefix-after-lines : tie.Need-slice-reshare-prefix-after-lines
-slice-reshare-prefix-after-lines c = let s = c .before .before in let a = s .args in told-known (bins (a .borders .now)) (ceil (a .covered) (readings .per)) (a .imprints .now) (a .imprints-told) (a .dictionary .now) (a .dictionary-told) (s .pre .1) .imprints-in
+slice-reshare-prefix-after-lines c = let s = c .before .before in let a = s .args in told-known (readings .full) (readings .may-fill .0) (readings .may-fill .1) (bins (a .borders .now)) (ceil (a .covered) (readings .per)) (a .imprints .now) (a .imprints-told) (a .dictionary .now) (a .dictionary-told) (s .pre .1) .imprints-in
 
 slice-aggregate-after-lines : tie.Need-slice-aggregate-after-lines
-slice-aggregate-after-lines c = let s = c .before .before .before in let a = s .args in sym (length-take-le (a .imprints-told) (a .imprints .now) (told-known (bins (a .borders .now)) (ceil (a .covered) (readings .per)) (a .imprints .now) (a .imprints-told) (a .dictionary .now) (a .dictionary-told) (s .pre .1) .imprints-in))
+slice-aggregate-after-lines c = let s = c .before .before .before in let a = s .args in sym (length-take-le (a .imprints-told) (a .imprints .now) (told-known (readings .full) (readings .may-fill .0) (readings .may-fill .1) (bins (a .borders .now)) (ceil (a .covered) (readings .per)) (a .imprints .now) (a .imprints-told) (a .dictionary .now) (a .dictionary-told) (s .pre .1) .imprints-in))
 
 slice-reshare-prefix-after-lines-2 : tie.Need-slice-reshare-prefix-after-lines-2
-slice-reshare-prefix-after-lines-2 c = let s = c .before .before .before in let a = s .args in told-known (bins (a .borders .now)) (ceil (a .covered) (readings .per)) (a .imprints .now) (a .imprints-told) (a .dictionary .now) (a .dictionary-told) (s .pre .1) .dictionary-in
+slice-reshare-prefix-after-lines-2 c = let s = c .before .before .before in let a = s .args in told-known (readings .full) (readings .may-fill .0) (readings .may-fill .1) (bins (a .borders .now)) (ceil (a .covered) (readings .per)) (a .imprints .now) (a .imprints-told) (a .dictionary .now) (a .dictionary-told) (s .pre .1) .dictionary-in
 
 slice-aggregate-after-lines-2 : tie.Need-slice-aggregate-after-lines-2
-slice-aggregate-after-lines-2 c = let s = c .before .before .before .before in let a = s .args in sym (length-take-le (a .dictionary-told) (a .dictionary .now) (told-known (bins (a .borders .now)) (ceil (a .covered) (readings .per)) (a .imprints .now) (a .imprints-told) (a .dictionary .now) (a .dictionary-told) (s .pre .1) .dictionary-in))
+slice-aggregate-after-lines-2 c = let s = c .before .before .before .before in let a = s .args in sym (length-take-le (a .dictionary-told) (a .dictionary .now) (told-known (readings .full) (readings .may-fill .0) (readings .may-fill .1) (bins (a .borders .now)) (ceil (a .covered) (readings .per)) (a .imprints .now) (a .imprints-told) (a .dictionary .now) (a .dictionary-told) (s .pre .1) .dictionary-in))
 
 after-lines-requires : tie.Need-after-lines-requires
-after-lines-requires c κs = let s = c .before .before .before .before in let a = s .args in let t = told-known (bins (a .borders .now)) (ceil (a .covered) (readings .per)) (a .imprints .now) (a .imprints-told) (a .dictionary .now) (a .dictionary-told) (s .pre .1) in (t .dict-is, t .imps-is)
+after-lines-requires c κs = let s = c .before .before .before .before in let a = s .args in let t = told-known (readings .full) (readings .may-fill .0) (readings .may-fill .1) (bins (a .borders .now)) (ceil (a .covered) (readings .per)) (a .imprints .now) (a .imprints-told) (a .dictionary .now) (a .dictionary-told) (s .pre .1) in (readings .may-fill, (t .dict-is, t .imps-is))
 
 -- the packer goes on after the lines that the covered rows fill
-after-full : (c : tie.After-after-lines) → c .after-lines .result ≡ gone-on largest starting (take (full-lines readings (c .before .before .before .before .before .args .covered)) (unpack (take (c .before .before .before .before .before .args .dictionary-told) (c .before .before .before .before .before .args .dictionary .now)) (take (c .before .before .before .before .before .args .imprints-told) (c .before .before .before .before .before .args .imprints .now))))
+after-full : (c : tie.After-after-lines) → c .after-lines .result ≡ gone-on (readings .full) starting (take (full-lines readings (c .before .before .before .before .before .args .covered)) (unpack (take (c .before .before .before .before .before .args .dictionary-told) (c .before .before .before .before .before .args .dictionary .now)) (take (c .before .before .before .before .before .args .imprints-told) (c .before .before .before .before .before .args .imprints .now))))
 after-full c =
     let s = c .before .before .before .before .before in
     let a = s .args in
     let old = unpack (take (a .dictionary-told) (a .dictionary .now)) (take (a .imprints-told) (a .imprints .now)) in
-    c .after-lines .ensures ∙ ap (gone-on largest starting) (front-lines (a .covered) old (told-known (bins (a .borders .now)) (ceil (a .covered) (readings .per)) (a .imprints .now) (a .imprints-told) (a .dictionary .now) (a .dictionary-told) (s .pre .1) .one-each))
+    c .after-lines .ensures ∙ ap (gone-on (readings .full) starting) (front-lines (a .covered) old (told-known (readings .full) (readings .may-fill .0) (readings .may-fill .1) (bins (a .borders .now)) (ceil (a .covered) (readings .per)) (a .imprints .now) (a .imprints-told) (a .dictionary .now) (a .dictionary-told) (s .pre .1) .one-each))
 
 pack-lines-requires : tie.Need-pack-lines-requires
 pack-lines-requires c κs =
@@ -45,7 +45,7 @@ pack-lines-requires c κs =
     let a = s .args in
     let p = c .before .before .after-lines .result in
     let e = after-full (c .before .before) in
-    ((s .pre .0 .0, good-few (a .borders .now) (s .pre .0 .2), on-steady readings (a .column .now) (a .covered) (a .borders .now) (a .imprints .now) (a .imprints-told) (a .dictionary .now) (a .dictionary-told) (s .pre .1) p e), ((omega (arith, s .pre .0 .1), told-known (bins (a .borders .now)) (ceil (a .covered) (readings .per)) (a .imprints .now) (a .imprints-told) (a .dictionary .now) (a .dictionary-told) (s .pre .1) .imprints-in, told-known (bins (a .borders .now)) (ceil (a .covered) (readings .per)) (a .imprints .now) (a .imprints-told) (a .dictionary .now) (a .dictionary-told) (s .pre .1) .dictionary-in), (on-imps-room readings (a .column .now) (a .covered) (a .borders .now) (a .imprints .now) (a .imprints-told) (a .dictionary .now) (a .dictionary-told) (s .pre .1) p e, on-dict-room readings (a .column .now) (a .covered) (a .borders .now) (a .imprints .now) (a .imprints-told) (a .dictionary .now) (a .dictionary-told) (s .pre .1) p e)))
+    ((s .pre .0 .0, good-few (a .borders .now) (s .pre .0 .2), on-steady readings (a .column .now) (a .covered) (a .borders .now) (a .imprints .now) (a .imprints-told) (a .dictionary .now) (a .dictionary-told) (s .pre .1) p e), ((omega (arith, s .pre .0 .1), told-known (readings .full) (readings .may-fill .0) (readings .may-fill .1) (bins (a .borders .now)) (ceil (a .covered) (readings .per)) (a .imprints .now) (a .imprints-told) (a .dictionary .now) (a .dictionary-told) (s .pre .1) .imprints-in, told-known (readings .full) (readings .may-fill .0) (readings .may-fill .1) (bins (a .borders .now)) (ceil (a .covered) (readings .per)) (a .imprints .now) (a .imprints-told) (a .dictionary .now) (a .dictionary-told) (s .pre .1) .dictionary-in), (on-imps-room readings (a .column .now) (a .covered) (a .borders .now) (a .imprints .now) (a .imprints-told) (a .dictionary .now) (a .dictionary-told) (s .pre .1) p e, on-dict-room readings (a .column .now) (a .covered) (a .borders .now) (a .imprints .now) (a .imprints-told) (a .dictionary .now) (a .dictionary-told) (s .pre .1) p e)))
 
 enum-known-n : tie.Need-enum-known-n
 enum-known-n c = search needs

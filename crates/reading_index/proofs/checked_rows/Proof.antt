@@ -6,7 +6,7 @@ use native.Mathlib.Omega.{arith}
 use lib.ListN.{length}
 use Rattle.words.specs.Lists.{ceil}
 use Rattle.bins.specs.Bins.{readings, bins}
-use Rattle.dictionary.specs.Dictionary.{accepted, largest}
+use Rattle.dictionary.specs.Dictionary.{accepted}
 use Rattle.column_index.proofs.AnswerLaws.{good-few}
 use Rattle.column_index.proofs.CallLaws.{checked-long, checked-rest, checked-borders}
 use borrow.Author.Needs.{needs}
@@ -23,10 +23,10 @@ few : (c : tie.Then2) → length (c .before .before .before .before .before .arg
 few c = good-few (c .before .before .before .before .before .args .borders .now) (sym (c .before .good-borders .ensures) ∙ c .if2 .taken)
 
 -- what `accepted` says, of the index and the rows
-tested : (c : tie.After-accepted) → accepted largest (bins (c .before .before .before .before .before .before .before .before .args .borders .now)) (ceil (c .before .before .before .before .before .before .before .before .args .rows) (readings .per)) (c .before .before .before .before .before .before .before .before .args .dictionary .now) (c .before .before .before .before .before .before .before .before .args .imprints .now) ≡ c .accepted .result
+tested : (c : tie.After-accepted) → accepted (readings .full) (bins (c .before .before .before .before .before .before .before .before .args .borders .now)) (ceil (c .before .before .before .before .before .before .before .before .args .rows) (readings .per)) (c .before .before .before .before .before .before .before .before .args .dictionary .now) (c .before .before .before .before .before .before .before .before .args .imprints .now) ≡ c .accepted .result
 tested c =
     let a = c .before .before .before .before .before .before .before .before .args in
-    sym (c .accepted .ensures ∙ ap₂ (λ (n l : ℕ). accepted largest n l (a .dictionary .now) (a .imprints .now)) (c .before .before .bin-count .ensures) (c .before .line-count .ensures))
+    sym (c .accepted .ensures ∙ ap₂ (λ (n l : ℕ). accepted (readings .full) n l (a .dictionary .now) (a .imprints .now)) (c .before .before .bin-count .ensures) (c .before .line-count .ensures))
 
 bin-count-requires : tie.Need-bin-count-requires
 bin-count-requires c κs = few c

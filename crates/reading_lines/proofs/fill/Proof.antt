@@ -23,7 +23,7 @@ returns c =
     let a = s .args in
     let w = b .write-lines in
     let e = w .ensures in
-    on-filled (a .before) (imprints-from readings (a .borders .now) (a .column .now) (a .first .0)) (a .imprints .now) (a .dictionary .now) (w .result .imprints) (e .1 .1 .0) (omega (arith, e .1 .1 .0, s .pre .1 .0)) (w .result .dictionary) (e .1 .1 .1) (omega (arith, e .1 .1 .1, s .pre .1 .1)) _ _ (e .0) (e .1 .0)
+    on-filled (readings .full) (a .before) (imprints-from readings (a .borders .now) (a .column .now) (a .first .0)) (a .imprints .now) (a .dictionary .now) (w .result .imprints) (e .1 .1 .0) (omega (arith, e .1 .1 .0, s .pre .1 .0)) (w .result .dictionary) (e .1 .1 .1) (omega (arith, e .1 .1 .1, s .pre .1 .1)) _ _ (e .0) (e .1 .0)
 
 pub fill-spec : {M : Type 1} → statement M
 fill-spec = tie.close (tie.spec write-lines-requires same-length same-length-2 returns)

@@ -14,14 +14,14 @@ returns c =
     let s = c .before .before .before .before .before in
     let a = s .args in
     let m = c .before .before .measure-lines in
-    on-imprints-short (a .before) (imprints-from readings (a .borders .now) (a .column .now) (a .first .0)) (a .imprints .now) (a .dictionary .now) (m .result .imprints) (m .ensures .0) (c .if1 .taken)
+    on-imprints-short (readings .full) (a .before) (imprints-from readings (a .borders .now) (a .column .now) (a .first .0)) (a .imprints .now) (a .dictionary .now) (m .result .imprints) (m .ensures .0) (c .if1 .taken)
 
 returns-2 : tie.Need-returns-2
 returns-2 c =
     let s = c .before .before .before .before .before .before .before in
     let a = s .args in
     let m = c .before .before .before .before .measure-lines in
-    on-dictionary-short (a .before) (imprints-from readings (a .borders .now) (a .column .now) (a .first .0)) (a .imprints .now) (a .dictionary .now) (m .result .imprints) (m .ensures .0) (c .before .before .if1 .left) (m .result .dictionary) (m .ensures .1) (c .if2 .taken)
+    on-dictionary-short (readings .full) (a .before) (imprints-from readings (a .borders .now) (a .column .now) (a .first .0)) (a .imprints .now) (a .dictionary .now) (m .result .imprints) (m .ensures .0) (c .before .before .if1 .left) (m .result .dictionary) (m .ensures .1) (c .if2 .taken)
 
 fill-requires : tie.Need-fill-requires
 fill-requires c κs = search needs

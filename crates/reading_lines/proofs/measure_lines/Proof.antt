@@ -4,7 +4,6 @@ use mathlib.Core.Path.{_∙_}
 use native.Mathlib.Omega.{arith}
 use lib.Dec.{lit<}
 use Rattle.bins.specs.Bins.{readings}
-use Rattle.dictionary.specs.Dictionary.{largest}
 use Rattle.dictionary.specs.loops.Packer.{after, move-on}
 use Rattle.dictionary.proofs.PackLoops.{Measuring, measuring-starts, words-within, kept-within}
 use Rattle.column_index.specs.Extended.{imprints-from}
@@ -13,7 +12,7 @@ use Rattle.reading_lines.proofs.measure_lines.Statement.{statement}
 use Rattle.reading_lines.proofs.measure_lines.Tie as tie
 
 abbrev Inv-loop : tie.InvT-loop
-Inv-loop column borders lines nodes measuring₀ i₀ measuring i = Measuring measuring₀ (imprints-from readings borders column i₀) measuring (imprints-from readings borders column i)
+Inv-loop column borders lines nodes measuring₀ i₀ measuring i = Measuring (readings .full) measuring₀ (imprints-from readings borders column i₀) measuring (imprints-from readings borders column i)
 
 abbrev μ-loop : tie.MeasureT-loop
 μ-loop column borders lines nodes measuring₀ i₀ measuring i = lines - i
@@ -27,7 +26,7 @@ tree-of-requires c κs = c .before .pre .0 .1
 loop-holds : tie.Need-loop-holds Inv-loop μ-loop
 loop-holds c =
     let a = c .before .before .args in
-    measuring-starts (a .before) (imprints-from readings (a .borders .now) (a .column .now) (a .first .0)) (c .before .before .pre .0 .2)
+    measuring-starts (readings .full) (readings .may-fill .0) (a .before) (imprints-from readings (a .borders .now) (a .column .now) (a .first .0)) (c .before .before .pre .0 .2)
 
 imprint-at-requires : tie.Need-imprint-at-requires Inv-loop μ-loop
 imprint-at-requires c κs =
@@ -46,10 +45,10 @@ counted-requires c κs =
     let n = c .before .before .before .before .before .line-count in
     let y = c .imprint-at .result in
     let m = column-measures readings bs col (a .before) (a .first .0) (l .measuring) (l .i) y (c .imprint-at .ensures) (omega (arith, n .ensures, c .before .before .loop-test .taken)) (l .inv) in
-    let q = after (l .measuring) (move-on largest (l .measuring .state) y) in
+    let q = after (l .measuring) (move-on (readings .full) (l .measuring .state) y) in
     let all = imprints-from readings bs col (a .first .0) in
     let rest = imprints-from readings bs col (l .i + 1) in
-    (l .inv .steady, (omega (arith, words-within (a .before) all q rest m, s .pre .1 .1), omega (arith, kept-within (a .before) all q rest m, s .pre .1 .0)))
+    (l .inv .steady, (omega (arith, words-within (readings .full) (readings .may-fill .0) (a .before) all q rest m, s .pre .1 .1), omega (arith, kept-within (readings .full) (readings .may-fill .0) (a .before) all q rest m, s .pre .1 .0)))
 
 add-i : tie.Need-add-i Inv-loop μ-loop
 add-i c = let s = c .before .before .before .before .before .before .before in omega (arith, s .pre .0 .0, c .before .before .before .before .before .before .line-count .ensures, c .before .before .before .loop-test .taken)
@@ -72,7 +71,7 @@ ends-requires c κs =
     let l = c .before .loop in
     let n = c .before .before .before .line-count in
     let m = column-measured readings (a .borders .now) (a .column .now) (a .before) (a .first .0) (l .measuring) (l .i) (omega (arith, n .ensures, c .loop-test .left)) (l .inv) in
-    (m .steady, omega (arith, m .of-words, s .pre .1 .1))
+    (m .steady .1, omega (arith, m .of-words, s .pre .1 .1))
 
 returns : tie.Need-returns Inv-loop μ-loop
 returns c =

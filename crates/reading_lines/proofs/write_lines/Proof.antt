@@ -4,7 +4,6 @@ use mathlib.Core.Path.{_∙_}
 use native.Mathlib.Omega.{arith}
 use lib.Dec.{lit<}
 use Rattle.bins.specs.Bins.{readings}
-use Rattle.dictionary.specs.Dictionary.{largest}
 use Rattle.dictionary.specs.loops.Packer.{after, move-on}
 use Rattle.dictionary.proofs.PackLoops.{Writing, writing-starts, words-within, kept-within}
 use Rattle.column_index.specs.Extended.{imprints-from}
@@ -13,7 +12,7 @@ use Rattle.reading_lines.proofs.write_lines.Statement.{statement}
 use Rattle.reading_lines.proofs.write_lines.Tie as tie
 
 abbrev Inv-loop : tie.InvT-loop
-Inv-loop column borders imprints₀ dictionary₀ lines nodes packer₀ i₀ is ds packer i = Writing packer₀ (imprints-from readings borders column i₀) imprints₀ dictionary₀ packer (imprints-from readings borders column i) is ds
+Inv-loop column borders imprints₀ dictionary₀ lines nodes packer₀ i₀ is ds packer i = Writing (readings .full) packer₀ (imprints-from readings borders column i₀) imprints₀ dictionary₀ packer (imprints-from readings borders column i) is ds
 
 abbrev μ-loop : tie.MeasureT-loop
 μ-loop column borders imprints₀ dictionary₀ lines nodes packer₀ i₀ is ds packer i = lines - i
@@ -28,7 +27,7 @@ loop-holds : tie.Need-loop-holds Inv-loop μ-loop
 loop-holds c =
     let s = c .before .before .before .before in
     let a = s .args in
-    writing-starts (a .before) (imprints-from readings (a .borders .now) (a .column .now) (a .first .0)) (a .imprints .now) (a .dictionary .now) (s .pre .0 .2)
+    writing-starts (readings .full) (readings .may-fill .0) (a .before) (imprints-from readings (a .borders .now) (a .column .now) (a .first .0)) (a .imprints .now) (a .dictionary .now) (s .pre .0 .2)
 
 imprint-at-requires : tie.Need-imprint-at-requires Inv-loop μ-loop
 imprint-at-requires c κs =
@@ -50,8 +49,8 @@ pushed-requires c κs =
     let m = column-measures readings bs col (a .before) (a .first .0) (l .packer) (l .i) y (c .before .before .imprint-at .ensures) (omega (arith, n .ensures, c .before .before .before .before .loop-test .taken)) (w .measured) in
     let all = imprints-from readings bs col (a .first .0) in
     let rest = imprints-from readings bs col (l .i + 1) in
-    let q = after (l .packer) (move-on largest (l .packer .state) y) in
-    (w .measured .steady, (omega (arith, words-within (a .before) all q rest m, s .pre .1 .1, w .long-dict), omega (arith, kept-within (a .before) all q rest m, s .pre .1 .0, w .long-imps)))
+    let q = after (l .packer) (move-on (readings .full) (l .packer .state) y) in
+    (w .measured .steady, (omega (arith, words-within (readings .full) (readings .may-fill .0) (a .before) all q rest m, s .pre .1 .1, w .long-dict), omega (arith, kept-within (readings .full) (readings .may-fill .0) (a .before) all q rest m, s .pre .1 .0, w .long-imps)))
 
 add-i : tie.Need-add-i Inv-loop μ-loop
 add-i c =
@@ -71,7 +70,7 @@ loop-again c =
     let n = b .before .before .before .before .before .before .before .before .line-count in
     let y = b .before .before .before .imprint-at in
     let e = b .pushed .ensures in
-    rw (e .0) (column-writes readings (a .borders .now) (a .column .now) (a .before) (a .first .0) (l .packer) (l .i) (y .result) (y .ensures) (omega (arith, n .ensures, b .before .before .before .before .before .loop-test .taken)) (a .imprints .now) (a .dictionary .now) (l .imprints) (l .dictionary) (l .inv) (b .pushed .last .1 .1 .0) (b .pushed .last .1 .1 .1 .0) (e .1 .0) (e .1 .1))
+    rw (e .0) (column-writes readings (a .borders .now) (a .column .now) (a .before) (a .first .0) (l .packer) (l .i) (y .result) (y .ensures) (omega (arith, n .ensures, b .before .before .before .before .before .loop-test .taken)) (a .imprints .now) (a .dictionary .now) (l .imprints) (l .dictionary) (l .inv) (b .pushed .last .1 .1 .1 .0) (b .pushed .last .1 .1 .1 .1 .0) (e .1 .0) (e .1 .1))
 
 closed-requires : tie.Need-closed-requires Inv-loop μ-loop
 closed-requires c κs =
@@ -80,7 +79,7 @@ closed-requires c κs =
     let l = c .before .before .loop in
     let n = c .before .before .before .before .line-count in
     let w = column-written readings (a .borders .now) (a .column .now) (a .before) (a .first .0) (l .packer) (l .i) (omega (arith, n .ensures, c .before .loop-test .left)) (a .imprints .now) (a .dictionary .now) (l .imprints) (l .dictionary) (l .inv) in
-    (w .measured .steady, omega (arith, w .measured .of-words, s .pre .1 .1, w .long-dict))
+    (w .measured .steady .1, omega (arith, w .measured .of-words, s .pre .1 .1, w .long-dict))
 
 ends-requires : tie.Need-ends-requires Inv-loop μ-loop
 ends-requires c κs =
@@ -90,7 +89,7 @@ ends-requires c κs =
     let l = b .before .before .loop in
     let n = b .before .before .before .before .line-count in
     let w = column-written readings (a .borders .now) (a .column .now) (a .before) (a .first .0) (l .packer) (l .i) (omega (arith, n .ensures, b .before .loop-test .left)) (a .imprints .now) (a .dictionary .now) (l .imprints) (l .dictionary) (l .inv) in
-    (w .measured .steady, omega (arith, w .measured .of-words, s .pre .1 .1, s .good))
+    (w .measured .steady .1, omega (arith, w .measured .of-words, s .pre .1 .1, s .good))
 
 same-length : tie.Need-same-length Inv-loop μ-loop
 same-length c = omega (arith, c .before .before .before .before .before .before .loop .inv .long-imps)

@@ -32,7 +32,7 @@ after-front-requires c κs = search needs
 counted-requires : tie.Need-counted-requires
 counted-requires c κs =
     let s = c .before .before .before .before .before in
-    room (now (s .args .dictionary)) (now (s .args .imprints)) (c .after-front .result) (c .before .before .imprint-from-end .result) (omega (arith, s .good)) (omega (arith, s .good)) (c .after-front .ensures)
+    room (s .args .full) (now (s .args .dictionary)) (now (s .args .imprints)) (c .after-front .result) (c .before .before .imprint-from-end .result) (omega (arith, s .good)) (omega (arith, s .good)) (c .after-front .ensures)
 
 returns-2 : tie.Need-returns-2
 returns-2 c =

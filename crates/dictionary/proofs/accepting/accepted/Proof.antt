@@ -17,19 +17,21 @@ scanned-requires c κs = search needs
 
 returns : tie.Need-returns
 returns c =
-    let a = c .before .before .before .before .before .args in
+    let s = c .before .before .before .before .before in
+    let a = s .args in
     let ds = now (a .dictionary) in
     let is = now (a .imprints) in
     let f = sym (c .before .before .all-fit .ensures) ∙ c .before .if1 .taken in
-    c .scanned .ensures ∙ sym (ap (λ (t : Bool). t && scan ds is (preceding Start 0) (a .lines)) f) ∙ scan-accepts (a .bins) (a .lines) ds is
+    c .scanned .ensures ∙ sym (ap (λ (t : Bool). t && scan (a .full) ds is (preceding Start 0) (a .lines)) f) ∙ scan-accepts (a .full) (s .pre .0 .0) (s .pre .0 .1) (a .bins) (a .lines) ds is
 
 returns-2 : tie.Need-returns-2
 returns-2 c =
-    let a = c .before .before .before .before .args in
+    let s = c .before .before .before .before in
+    let a = s .args in
     let ds = now (a .dictionary) in
     let is = now (a .imprints) in
     let f = sym (c .before .all-fit .ensures) ∙ c .if1 .left in
-    sym (ap (λ (t : Bool). t && scan ds is (preceding Start 0) (a .lines)) f) ∙ scan-accepts (a .bins) (a .lines) ds is
+    sym (ap (λ (t : Bool). t && scan (a .full) ds is (preceding Start 0) (a .lines)) f) ∙ scan-accepts (a .full) (s .pre .0 .0) (s .pre .0 .1) (a .bins) (a .lines) ds is
 
 pub accepted-spec : {M : Type 1} → statement M
 accepted-spec = tie.close (tie.spec all-fit-requires scanned-requires returns returns-2)

@@ -15,13 +15,13 @@ use Rattle.dictionary.proofs.accepting.scanned.Statement.{statement}
 use Rattle.dictionary.proofs.accepting.scanned.Tie as tie
 
 abbrev Inv-loop : tie.InvT-loop
-Inv-loop dictionary imprints lines b₀ entry₀ from₀ left₀ b entry from left = Scanning dictionary imprints lines b entry from left
+Inv-loop full dictionary imprints lines b₀ entry₀ from₀ left₀ b entry from left = Scanning full dictionary imprints lines b entry from left
 
 abbrev μ-loop : tie.MeasureT-loop
-μ-loop dictionary imprints lines b₀ entry₀ from₀ left₀ b entry from left = length dictionary - entry
+μ-loop full dictionary imprints lines b₀ entry₀ from₀ left₀ b entry from left = length dictionary - entry
 
 loop-holds : tie.Need-loop-holds Inv-loop μ-loop
-loop-holds c = let a = c .before .before .args in scanning-starts (now (a .dictionary)) (now (a .imprints)) (a .lines)
+loop-holds c = let a = c .before .before .args in scanning-starts (a .full) (now (a .dictionary)) (now (a .imprints)) (a .lines)
 
 mul-d : tie.Need-mul-d Inv-loop μ-loop
 mul-d c = search needs
@@ -39,15 +39,15 @@ returns : tie.Need-returns Inv-loop μ-loop
 returns c =
     let s = c .before .before .before .before .before .before .before .before in
     let l = c .before .before .before .before .before .loop in
-    scanning-refuses (now (s .args .dictionary)) (now (s .args .imprints)) (s .args .lines) (l .b) (l .entry) (l .from) (l .left) (l .inv) (c .before .before .before .before .loop-test .taken)
-    (sym (ap (λ (r : List ℕ). good-entry (getD (now (s .args .dictionary)) (l .entry) 0) r (l .b) (l .left)) (c .before .before .rest-of .ensures)) ∙ sym (c .before .entry-good .ensures) ∙ not-true (c .before .entry-good .result) (c .if1 .taken))
+    scanning-refuses (s .args .full) (now (s .args .dictionary)) (now (s .args .imprints)) (s .args .lines) (l .b) (l .entry) (l .from) (l .left) (l .inv) (c .before .before .before .before .loop-test .taken)
+    (sym (ap (λ (r : List ℕ). good-entry (s .args .full) (getD (now (s .args .dictionary)) (l .entry) 0) r (l .b) (l .left)) (c .before .before .rest-of .ensures)) ∙ sym (c .before .entry-good .ensures) ∙ not-true (c .before .entry-good .result) (c .if1 .taken))
 
 -- the entry was found good
-found : (c : tie.Else1 Inv-loop μ-loop) → good-entry (getD (now (c .before .before .before .before .before .before .before .before .args .dictionary)) (c .before .before .before .before .before .loop .entry) 0) (drop (c .before .before .before .before .before .loop .from) (now (c .before .before .before .before .before .before .before .before .args .imprints))) (c .before .before .before .before .before .loop .b) (c .before .before .before .before .before .loop .left) ≡ true
-found c = sym (ap (λ (r : List ℕ). good-entry (getD (now (c .before .before .before .before .before .before .before .before .args .dictionary)) (c .before .before .before .before .before .loop .entry) 0) r (c .before .before .before .before .before .loop .b) (c .before .before .before .before .before .loop .left)) (c .before .before .rest-of .ensures)) ∙ sym (c .before .entry-good .ensures) ∙ not-false (c .before .entry-good .result) (c .if1 .left)
+found : (c : tie.Else1 Inv-loop μ-loop) → good-entry (c .before .before .before .before .before .before .before .before .args .full) (getD (now (c .before .before .before .before .before .before .before .before .args .dictionary)) (c .before .before .before .before .before .loop .entry) 0) (drop (c .before .before .before .before .before .loop .from) (now (c .before .before .before .before .before .before .before .before .args .imprints))) (c .before .before .before .before .before .loop .b) (c .before .before .before .before .before .loop .left) ≡ true
+found c = sym (ap (λ (r : List ℕ). good-entry (c .before .before .before .before .before .before .before .before .args .full) (getD (now (c .before .before .before .before .before .before .before .before .args .dictionary)) (c .before .before .before .before .before .loop .entry) 0) r (c .before .before .before .before .before .loop .b) (c .before .before .before .before .before .loop .left)) (c .before .before .rest-of .ensures)) ∙ sym (c .before .entry-good .ensures) ∙ not-false (c .before .entry-good .result) (c .if1 .left)
 
 fits : (c : tie.Else1 Inv-loop μ-loop) → Fits (getD (now (c .before .before .before .before .before .before .before .before .args .dictionary)) (c .before .before .before .before .before .loop .entry) 0) (drop (c .before .before .before .before .before .loop .from) (now (c .before .before .before .before .before .before .before .before .args .imprints))) (c .before .before .before .before .before .loop .left)
-fits c = good-fits (getD (now (c .before .before .before .before .before .before .before .before .args .dictionary)) (c .before .before .before .before .before .loop .entry) 0) (drop (c .before .before .before .before .before .loop .from) (now (c .before .before .before .before .before .before .before .before .args .imprints))) (c .before .before .before .before .before .loop .b) (c .before .before .before .before .before .loop .left) (found c)
+fits c = good-fits (c .before .before .before .before .before .before .before .before .args .full) (getD (now (c .before .before .before .before .before .before .before .before .args .dictionary)) (c .before .before .before .before .before .loop .entry) 0) (drop (c .before .before .before .before .before .loop .from) (now (c .before .before .before .before .before .before .before .before .args .imprints))) (c .before .before .before .before .before .loop .b) (c .before .before .before .before .before .loop .left) (found c)
 
 after-requires : tie.Need-after-requires Inv-loop μ-loop
 after-requires c κs = rw (c .before .before .rest-of .ensures) (fits c .has-one, fits c .has-all)
@@ -77,20 +77,20 @@ loop-again : tie.Need-loop-again Inv-loop μ-loop
 loop-again c =
     let s = c .before .before .before .before .before .before .before .before .before .before .before in
     let l = c .before .before .before .before .before .before .before .before .loop in
-    scanning-turns (now (s .args .dictionary)) (now (s .args .imprints)) (s .args .lines) (l .b) (l .entry) (l .from) (l .left) (l .inv) (c .before .before .before .before .before .before .before .loop-test .taken) (found (c .before .before .before)) (c .before .before .after .result) (c .before .used .result) (c .count-of .result)
-    (c .before .before .after .ensures ∙ ap (λ (r : List ℕ). after-entry (getD (now (s .args .dictionary)) (l .entry) 0) r (l .b)) (c .before .before .before .before .before .rest-of .ensures)) (c .before .used .ensures) (c .count-of .ensures)
+    scanning-turns (s .args .full) (now (s .args .dictionary)) (now (s .args .imprints)) (s .args .lines) (l .b) (l .entry) (l .from) (l .left) (l .inv) (c .before .before .before .before .before .before .before .loop-test .taken) (found (c .before .before .before)) (c .before .before .after .result) (c .before .used .result) (c .count-of .result)
+    (c .before .before .after .ensures ∙ ap (λ (r : List ℕ). after-entry (s .args .full) (getD (now (s .args .dictionary)) (l .entry) 0) r (l .b)) (c .before .before .before .before .before .rest-of .ensures)) (c .before .used .ensures) (c .count-of .ensures)
 
 returns-2 : tie.Need-returns-2 Inv-loop μ-loop
 returns-2 c =
     let s = c .before .before .before .before .before in
     let l = c .before .before .loop in
-    scanning-unused (now (s .args .dictionary)) (now (s .args .imprints)) (s .args .lines) (l .b) (l .entry) (l .from) (l .left) (l .inv) (c .before .loop-test .left) (c .if2 .taken)
+    scanning-unused (s .args .full) (now (s .args .dictionary)) (now (s .args .imprints)) (s .args .lines) (l .b) (l .entry) (l .from) (l .left) (l .inv) (c .before .loop-test .left) (c .if2 .taken)
 
 returns-3 : tie.Need-returns-3 Inv-loop μ-loop
 returns-3 c =
     let s = c .before .before .before .before .before in
     let l = c .before .before .loop in
-    scanning-ends (now (s .args .dictionary)) (now (s .args .imprints)) (s .args .lines) (l .b) (l .entry) (l .from) (l .left) (l .inv) (c .before .loop-test .left) (c .if2 .left)
+    scanning-ends (s .args .full) (now (s .args .dictionary)) (now (s .args .imprints)) (s .args .lines) (l .b) (l .entry) (l .from) (l .left) (l .inv) (c .before .loop-test .left) (c .if2 .left)
 
 pub scanned-spec : {M : Type 1} → statement M
 scanned-spec =

@@ -2,7 +2,6 @@
 use lib.Dec.{eqb}
 use mathlib.Core.Bool.{false}
 use Rattle.dictionary.specs.declared.packing.Open.the-variants.{Lone}
-use Rattle.dictionary.specs.Dictionary.{largest}
 use Rattle.dictionary.proofs.TurnLaws.{same-last, other-last, is-full, not-full}
 use borrow.Author.Needs.{needs}
 use Rattle.dictionary.proofs.packing.lone_turn.Statement.{statement}
@@ -17,7 +16,7 @@ turn-of-requires c κs = search needs
 returns : tie.Need-returns
 returns c =
     let a = c .before .before .args in
-    same-last Lone (c .turn-of .result) (a .count) (a .last) (a .imprint) (eqb (a .count) largest) (c .before .if1 .taken) (c .turn-of .ensures)
+    same-last Lone (c .turn-of .result) (a .full) (a .count) (a .last) (a .imprint) (eqb (a .count) (a .full)) (c .before .if1 .taken) (c .turn-of .ensures)
 
 turn-of-requires-2 : tie.Need-turn-of-requires-2
 turn-of-requires-2 c κs = search needs
@@ -25,8 +24,8 @@ turn-of-requires-2 c κs = search needs
 returns-2 : tie.Need-returns-2
 returns-2 c =
     let a = c .before .before .before .args in
-    other-last Lone (c .turn-of2 .result) (a .count) (a .last) (a .imprint) (eqb (a .count) largest) (c .before .before .if1 .left)
-    (is-full Lone (c .turn-of2 .result) (a .count) (a .last) (a .imprint) false (c .before .if2 .taken) (c .turn-of2 .ensures))
+    other-last Lone (c .turn-of2 .result) (a .full) (a .count) (a .last) (a .imprint) (eqb (a .count) (a .full)) (c .before .before .if1 .left)
+    (is-full Lone (c .turn-of2 .result) (a .full) (a .count) (a .last) (a .imprint) false (c .before .if2 .taken) (c .turn-of2 .ensures))
 
 add-turn-of : tie.Need-add-turn-of
 add-turn-of c = search needs
@@ -37,8 +36,8 @@ turn-of-requires-3 c κs = search needs
 returns-3 : tie.Need-returns-3
 returns-3 c =
     let a = c .before .before .before .args in
-    other-last Lone (c .turn-of3 .result) (a .count) (a .last) (a .imprint) (eqb (a .count) largest) (c .before .before .if1 .left)
-    (not-full Lone (c .turn-of3 .result) (a .count) (a .last) (a .imprint) false (c .before .if2 .left) (c .turn-of3 .ensures))
+    other-last Lone (c .turn-of3 .result) (a .full) (a .count) (a .last) (a .imprint) (eqb (a .count) (a .full)) (c .before .before .if1 .left)
+    (not-full Lone (c .turn-of3 .result) (a .full) (a .count) (a .last) (a .imprint) false (c .before .if2 .left) (c .turn-of3 .ensures))
 
 pub lone-turn-spec : {M : Type 1} → statement M
 lone-turn-spec =

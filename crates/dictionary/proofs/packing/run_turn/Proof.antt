@@ -2,7 +2,6 @@
 use lib.Dec.{eqb}
 use mathlib.Core.Bool.{true}
 use Rattle.dictionary.specs.declared.packing.Open.the-variants.{Run}
-use Rattle.dictionary.specs.Dictionary.{largest}
 use Rattle.dictionary.proofs.TurnLaws.{same-last, other-last, is-full, not-full}
 use borrow.Author.Needs.{needs}
 use Rattle.dictionary.proofs.packing.run_turn.Statement.{statement}
@@ -17,7 +16,7 @@ turn-of-requires c κs = search needs
 returns : tie.Need-returns
 returns c =
     let a = c .before .before .args in
-    other-last Run (c .turn-of .result) (a .count) (a .last) (a .imprint) (eqb (a .count) largest) (c .before .if1 .taken) (c .turn-of .ensures)
+    other-last Run (c .turn-of .result) (a .full) (a .count) (a .last) (a .imprint) (eqb (a .count) (a .full)) (c .before .if1 .taken) (c .turn-of .ensures)
 
 add-turn-of-2 : tie.Need-add-turn-of-2
 add-turn-of-2 c = search needs
@@ -28,8 +27,8 @@ turn-of-requires-2 c κs = search needs
 returns-2 : tie.Need-returns-2
 returns-2 c =
     let a = c .before .before .before .args in
-    same-last Run (c .turn-of2 .result) (a .count) (a .last) (a .imprint) (eqb (a .count) largest) (c .before .before .if1 .left)
-    (is-full Run (c .turn-of2 .result) (a .count) (a .last) (a .imprint) true (c .before .if2 .taken) (c .turn-of2 .ensures))
+    same-last Run (c .turn-of2 .result) (a .full) (a .count) (a .last) (a .imprint) (eqb (a .count) (a .full)) (c .before .before .if1 .left)
+    (is-full Run (c .turn-of2 .result) (a .full) (a .count) (a .last) (a .imprint) true (c .before .if2 .taken) (c .turn-of2 .ensures))
 
 add-turn-of-3 : tie.Need-add-turn-of-3
 add-turn-of-3 c = search needs
@@ -40,8 +39,8 @@ turn-of-requires-3 c κs = search needs
 returns-3 : tie.Need-returns-3
 returns-3 c =
     let a = c .before .before .before .args in
-    same-last Run (c .turn-of3 .result) (a .count) (a .last) (a .imprint) (eqb (a .count) largest) (c .before .before .if1 .left)
-    (not-full Run (c .turn-of3 .result) (a .count) (a .last) (a .imprint) true (c .before .if2 .left) (c .turn-of3 .ensures))
+    same-last Run (c .turn-of3 .result) (a .full) (a .count) (a .last) (a .imprint) (eqb (a .count) (a .full)) (c .before .before .if1 .left)
+    (not-full Run (c .turn-of3 .result) (a .full) (a .count) (a .last) (a .imprint) true (c .before .if2 .left) (c .turn-of3 .ensures))
 
 pub run-turn-spec : {M : Type 1} → statement M
 run-turn-spec =

@@ -6,7 +6,7 @@ use native.Mathlib.Omega.{arith}
 use lib.Dec.{lit<, lit≤}
 use borrow.Author.Tests.{not-true, not-false}
 use Rattle.bins.specs.Bins.{readings, good-borders, bins}
-use Rattle.dictionary.specs.Dictionary.{largest, accepted}
+use Rattle.dictionary.specs.Dictionary.{accepted}
 use Rattle.dictionary.proofs.IndexLaws.{accepted-lines}
 use Rattle.column_index.proofs.AnswerLaws.{unpack-too-long, unpack-bad-borders, unpack-no-index, unpack-short, unpack-done, good-few}
 use borrow.Author.Needs.{needs}
@@ -18,12 +18,12 @@ good : (c : tie.Else2) → good-borders (c .before .before .before .before .befo
 good c = let g = c .before .good-borders in sym (g .ensures) ∙ not-false (g .result) (c .if2 .left)
 
 -- the test is by the number of bins
-by-bins : (c : tie.After-accepted) → let a = c .before .before .before .before .before .before .before .before .args in accepted largest (bins (a .borders .now)) (a .lines) (a .dictionary .now) (a .imprints .now) ≡ c .accepted .result
+by-bins : (c : tie.After-accepted) → let a = c .before .before .before .before .before .before .before .before .args in accepted (readings .full) (bins (a .borders .now)) (a .lines) (a .dictionary .now) (a .imprints .now) ≡ c .accepted .result
 by-bins c =
     let a = c .before .before .before .before .before .before .before .before .args in
-    ap (λ (n : ℕ). accepted largest n (a .lines) (a .dictionary .now) (a .imprints .now)) (sym (c .before .bin-count .ensures)) ∙ sym (c .accepted .ensures)
+    ap (λ (n : ℕ). accepted (readings .full) n (a .lines) (a .dictionary .now) (a .imprints .now)) (sym (c .before .bin-count .ensures)) ∙ sym (c .accepted .ensures)
 
-index : (c : tie.Else3) → let a = c .before .before .before .before .before .before .before .before .before .args in accepted largest (bins (a .borders .now)) (a .lines) (a .dictionary .now) (a .imprints .now) ≡ true
+index : (c : tie.Else3) → let a = c .before .before .before .before .before .before .before .before .before .args in accepted (readings .full) (bins (a .borders .now)) (a .lines) (a .dictionary .now) (a .imprints .now) ≡ true
 index c = by-bins (c .before) ∙ not-false (c .before .accepted .result) (c .if3 .left)
 
 returns : tie.Need-returns
@@ -61,7 +61,7 @@ unpack-into-requires : tie.Need-unpack-into-requires
 unpack-into-requires c κs =
     let e = c .before .before in
     let a = e .before .before .before .before .before .before .before .before .before .args in
-    omega (arith, accepted-lines largest (lit≤ tt) (lit< tt) (bins (a .borders .now)) (a .lines) (a .dictionary .now) (a .imprints .now) (index e) .1, c .before .if4 .left)
+    omega (arith, accepted-lines (readings .full) (readings .may-fill .0) (readings .may-fill .1) (bins (a .borders .now)) (a .lines) (a .dictionary .now) (a .imprints .now) (index e) .1, c .before .if4 .left)
 
 same-length : tie.Need-same-length
 same-length c = search needs

@@ -4,7 +4,6 @@ use native.Mathlib.Omega.{arith}
 use lib.Seq.{sets}
 use denote.Ref.{now}
 use Rattle.dictionary.specs.declared.packing.Turn.{Turn}
-use Rattle.dictionary.specs.Dictionary.{largest}
 use Rattle.dictionary.specs.loops.Packer.{settled, added, move-on}
 use Rattle.dictionary.proofs.TurnLaws.{after-is}
 use borrow.Author.Needs.{needs}
@@ -36,7 +35,7 @@ returns : tie.Need-returns
 returns c =
     let a = c .before .before .before .before .before .before .before .before .before .before .before .before .before .before .before .args in
     let e = c .before .before .before .before .before .before .before .before .before .before .before .turned .ensures in (
-      after-is (a .self) (c .before .before .before .before .before .before .before .before .before .before .before .turned .result) (move-on largest (a .self .state) (a .imprint)) (c .before .more-words .result) (c .more-kept .result) e (c .before .more-words .ensures) (c .more-kept .ensures),
+      after-is (a .self) (c .before .before .before .before .before .before .before .before .before .before .before .turned .result) (move-on (a .full) (a .self .state) (a .imprint)) (c .before .more-words .result) (c .more-kept .result) e (c .before .more-words .ensures) (c .more-kept .ensures),
       (
         c .before .before .before .before .before .before .before .before .put-imprint .ensures ∙ ap (λ (t : Turn). sets (now (a .imprints)) (a .self .kept) (added (t .keeps) (a .imprint))) e,
         c .before .before .before .before .put-word .ensures ∙ ap (λ (t : Turn). sets (now (a .dictionary)) (a .self .words) (settled (t .word))) e,
