@@ -42,8 +42,9 @@ enum mgz_number {
 };
 
 #define MGZ_ROWS_PER_LINE 16
-#define MGZ_ROWS_AT_MOST 16777216
-#define MGZ_LINES_AT_MOST 1048576
+#define MGZ_ROWS_AT_MOST 4294967295
+#define MGZ_LINES_AT_MOST 268435456
+#define MGZ_COUNT_AT_MOST 16777215 /* lines of a dictionary entry; one of so many is full */
 #define MGZ_BORDERS_AT_MOST 63
 #define MGZ_LEVELS_AT_MOST 20
 #define MGZ_ROOM_AT_MOST 4095
@@ -54,7 +55,7 @@ enum mgz_number {
 #define MGZ_FAULT INT32_MIN
 
 /* Lines of a column of so many rows. An imprint and a dictionary space of this length are always long enough. */
-#define MGZ_LINES(rows) (((rows) + (MGZ_ROWS_PER_LINE - 1)) / MGZ_ROWS_PER_LINE)
+#define MGZ_LINES(rows) ((rows) / MGZ_ROWS_PER_LINE + ((rows) % MGZ_ROWS_PER_LINE != 0))
 
 /* Lengths of the three parts of a built index. */
 struct mgz_built {
@@ -149,7 +150,7 @@ struct mgz_registered {
 
 /* Bytes of the image of an index of so many borders, imprints and dictionary words. */
 #define MGZ_CARD_BYTES(borders, imprints, dictionary) \
-    ((15 + 4 * (borders) + 8 * (imprints) + 4 * (dictionary)) / MGZ_CARD_PAYLOAD * MGZ_CARD_BLOCK + MGZ_CARD_BLOCK)
+    ((15ULL + 4ULL * (borders) + 8ULL * (imprints) + 4ULL * (dictionary)) / MGZ_CARD_PAYLOAD * MGZ_CARD_BLOCK + MGZ_CARD_BLOCK)
 
 /* How many bytes of the card the image fills. */
 struct mgz_card_written {
@@ -186,7 +187,12 @@ uint32_t mgz_append(const int32_t *column, size_t column_length, uint64_t covere
                     uint64_t *imprints, size_t imprints_length, uint64_t imprints_told, uint32_t *dictionary, size_t dictionary_length,
                     uint64_t dictionary_told, struct mgz_appended *out);
 
-/* Packs a list of imprints, one per line. Numbers: 2, 5, 3, 4. */
+/* Packs a list of imprints, one per line. A run of two or more equal ones becomes a repeat entry, with its length and one imprint kept;
+ * neighbouring single ones are gathered into a plain entry, with their number and all imprints kept. An entry is a dictionary word: bits 0
+ * to 23 the count, bit 24 the repeat mark, the others 0. Entries fill up: a run longer than MGZ_COUNT_AT_MOST becomes full repeat entries
+ * and then one entry for what is left, where one line left over is a plain entry of its own, which gathers no later single; singles beyond
+ * a full plain entry start another. Other calls take the packing alone: the same lines in other entries are MGZ_NOT_AN_INDEX.
+ * Numbers: 2, 5, 3, 4. */
 uint32_t mgz_pack(const uint64_t *list, size_t list_length, const int32_t *borders, size_t borders_length, uint64_t *imprints,
                   size_t imprints_length, uint32_t *dictionary, size_t dictionary_length, struct mgz_packed *out);
 
@@ -260,8 +266,9 @@ uint32_t mgz_card_write(uint64_t rows, const int32_t *borders, size_t borders_le
  * In each block are tested its size and its check (15), its edition (14), all else (15): its number, its payload length, the zeros, that
  * it is not past the last; then the spaces, in each block too (4); and at the last one, whether the words are an index (2, 5, 3). A block
  * of length 0 says that there is no more: 15, with the block due. Any state may be handed in.
- * The header's counts are whatever stands there. An index has at most MGZ_BORDERS_AT_MOST borders, MGZ_LINES_AT_MOST imprints and as many
- * dictionary words, so nobody has to follow a `needed` beyond that. Numbers: 15, 14, 15, 4, 2, 5, 3. */
+ * The header's counts are whatever stands there. An index has at most MGZ_BORDERS_AT_MOST borders, and of so many rows at most
+ * MGZ_LINES(rows) imprints and as many dictionary words, so nobody has to follow a `needed` beyond that. A header has no room for more rows
+ * than MGZ_ROWS_AT_MOST, so 2 is only given for a state that was handed in with more. Numbers: 15, 14, 15, 4, 2, 5, 3. */
 uint32_t mgz_card_feed(const uint8_t *block, size_t block_length, uint64_t due, uint64_t rows, uint64_t borders_count,
                        uint64_t imprints_count, uint64_t dictionary_count, int32_t *borders, size_t borders_length, uint64_t *imprints,
                        size_t imprints_length, uint32_t *dictionary, size_t dictionary_length, struct mgz_card_fed *out);

@@ -64,12 +64,16 @@ case("zero_bytes", with_block(2, changed(blocks[2], 11, b"\x01")), f"{second} is
 case("filler", with_block(last, changed(blocks[last], 507, b"\x01")), f"{at_last} is bad: its filler is not zero")
 
 rows, borders, imprints, dictionary = struct.unpack("<4I", blocks[0][12:28])
-claim = "its header claims {} borders, {} imprints and {} dictionary words, and an index has at most 63, 1048576 and 1048576"
+claim = "its header claims {} borders, {} imprints and {} dictionary words, and an index has at most 63, 268435456 and 268435456"
 most = 2**32 - 1
 case("claims", changed(blocks[0], 12, b"\xff" * 16), "block 0 is bad: " + claim.format(most, most, most))
 case("64_borders", changed(blocks[0], 16, b"\x40"), "block 0 is bad: " + claim.format(64, imprints, dictionary))
+over = 268435457
+case("imprints_too_many", changed(blocks[0], 20, struct.pack("<I", over)), "block 0 is bad: " + claim.format(borders, over, dictionary))
+case("dictionary_too_long", changed(blocks[0], 24, struct.pack("<I", over)), "block 0 is bad: " + claim.format(borders, imprints, over))
 none = "the blocks are sound, but they hold no index:"
-case("rows_too_many", with_block(0, changed(blocks[0], 12, struct.pack("<I", 16777217))), f"{none} they claim 16777217 rows, and a column has at most 16777216")
-case("rows_off", with_block(0, changed(blocks[0], 12, struct.pack("<I", rows + 16))), f"{none} their imprints and dictionary words are none of a column of {rows + 16} rows")
+# Four bytes have no room for more rows than a column can have.
+for name, other in (("rows_off", rows + 16), ("rows_of_old", 2**24 + 1), ("rows_at_most", most)):
+    case(name, with_block(0, changed(blocks[0], 12, struct.pack("<I", other))), f"{none} their imprints and dictionary words are none of a column of {other} rows")
 case("equal_borders", with_block(0, changed(blocks[0], 28, blocks[0][32:36])), f"{none} their borders are not strictly rising")
 case("no_imprint", with_block(2, changed(blocks[2], 12, bytes(496))), f"{none} their imprints and dictionary words are none of a column of {rows} rows")

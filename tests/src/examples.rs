@@ -1,6 +1,8 @@
 //! Document 01's examples, and what document 02 says of append and of faults, of the plain implementation.
 use crate::inputs::{in_spaces, LOWEST};
+use crate::mapped::Zeros;
 use crate::plain::*;
+use std::collections::HashSet;
 
 fn column_a() -> Vec<i32> {
     let mut column = vec![5; 32];
@@ -111,7 +113,74 @@ fn samples_and_lengths() {
     assert_eq!(sample(&vec![1; 2049]).len(), 1025);
     let nothing = Index { borders: vec![], imprints: vec![], dictionary: vec![] };
     assert_eq!(build(&[], [0, 0, 0]), Ok(nothing));
-    assert_eq!(build(&vec![0; 16_777_217], [63, 9, 9]).unwrap_err().number, 2);
+    assert_eq!(build(&vec![0; 16_777_217], [63, 9, 9]).unwrap().dictionary, [REPEAT + 1_048_577]);
+    assert_eq!(build(&Zeros::of(4_294_967_296), [63, 9, 9]).unwrap_err().number, 2);
+}
+
+/// Request 107 with small largest counts: runs that fill entries, what is left of them, and singles beyond a full entry.
+#[test]
+fn entries_fill_up() {
+    const R: u32 = REPEAT;
+    type Case<'a> = (usize, &'a [u64], &'a [u64], &'a [u32]);
+    let cases: [Case; 20] = [
+        (3, &[], &[], &[]),
+        (3, &[5], &[5], &[1]),
+        (3, &[5, 5, 5], &[5], &[R + 3]),
+        (3, &[5, 5, 5, 5], &[5, 5], &[R + 3, 1]),
+        (3, &[5, 5, 5, 5, 5], &[5, 5], &[R + 3, R + 2]),
+        (3, &[5, 5, 5, 5, 5, 5], &[5, 5], &[R + 3, R + 3]),
+        (3, &[5, 5, 5, 5, 5, 5, 5], &[5, 5, 5], &[R + 3, R + 3, 1]),
+        (3, &[5, 5, 5, 6], &[5, 6], &[R + 3, 1]),
+        (3, &[5, 5, 5, 5, 6], &[5, 5, 6], &[R + 3, 1, 1]),
+        (3, &[5, 5, 5, 5, 6, 5], &[5, 5, 6, 5], &[R + 3, 1, 2]),
+        (3, &[5, 5, 5, 5, 6, 6], &[5, 5, 6], &[R + 3, 1, R + 2]),
+        (3, &[6, 5, 5, 5, 5, 6], &[6, 5, 5, 6], &[1, R + 3, 1, 1]),
+        (3, &[5, 6, 5], &[5, 6, 5], &[3]),
+        (3, &[5, 6, 5, 6], &[5, 6, 5, 6], &[3, 1]),
+        (3, &[5, 6, 5, 6, 6], &[5, 6, 5, 6], &[3, R + 2]),
+        (3, &[5, 6, 5, 6, 5, 6, 7, 7], &[5, 6, 5, 6, 5, 6, 7], &[3, 3, R + 2]),
+        (2, &[5, 5, 5], &[5, 5], &[R + 2, 1]),
+        (2, &[5, 5, 5, 6, 7, 8], &[5, 5, 6, 7, 8], &[R + 2, 1, 2, 1]),
+        (2, &[6, 5, 5, 5, 5, 5], &[6, 5, 5, 5], &[1, R + 2, R + 2, 1]),
+        (7, &[5, 5, 5, 6, 7, 8], &[5, 6, 7, 8], &[R + 3, 3]),
+    ];
+    for (largest, list, imprints, dictionary) in cases {
+        assert_eq!(packing_with(largest, list), (imprints.to_vec(), dictionary.to_vec()), "{list:?} in entries of {largest}");
+    }
+}
+
+/// With entries of up to 2, 3 and 4 lines: of all small dictionaries over small imprints those are accepted that are the packing of a list,
+/// each list's packing is among them, and no two of them stand for the same.
+#[test]
+fn packings_alone_are_accepted() {
+    fn lists(words: usize, length: u32) -> impl Iterator<Item = Vec<u64>> {
+        (0..words.pow(length)).map(move |code| (0..length).map(|i| (code / words.pow(i) % words) as u64 + 1).collect())
+    }
+    for largest in 2..5 {
+        let packed: Vec<_> = (0..8).flat_map(|length| lists(2, length)).map(|list| (packing_with(largest, &list), list)).collect();
+        for ((imprints, dictionary), list) in &packed {
+            let back = accepted_with(largest, &[0], imprints, dictionary, list.len() as u64).expect("a packing");
+            assert_eq!(each_word(&back).collect::<Vec<u64>>(), *list);
+        }
+        let packings: HashSet<_> = packed.into_iter().map(|(packing, _)| packing).collect();
+        // Entries 1 to 5 as they stand, 6 to 10 as repeat entries of one less, so also of 0 and of more than the largest count.
+        let entry = |code: u64| if code < 6 { code as u32 } else { REPEAT + code as u32 - 6 };
+        let mut accepted = 0;
+        for dictionary in (0..5).flat_map(|length| lists(11, length)).map(|codes| codes.into_iter().map(entry).collect::<Vec<u32>>()) {
+            let lines: u64 = dictionary.iter().map(|word| (word & COUNT) as u64).sum();
+            let kept = dictionary.iter().map(|word| if word & REPEAT == 0 { word & COUNT } else { 1 }).sum();
+            if 7 < lines || 6 < kept {
+                continue;
+            }
+            for imprints in lists(2, kept) {
+                let taken = accepted_with(largest, &[0], &imprints, &dictionary, lines).is_some();
+                let packing = packings.contains(&(imprints.clone(), dictionary.clone()));
+                assert_eq!(taken, packing, "{imprints:?} {dictionary:?} in entries of {largest}");
+                accepted += taken as usize;
+            }
+        }
+        assert!(100 < accepted, "{accepted}");
+    }
 }
 
 fn appended(column: &[i32], covered: usize, old: &Index) -> Index {

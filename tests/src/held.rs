@@ -114,9 +114,53 @@ impl<T: Word> Space<T> {
 
     /// The front is this, and what follows was never written.
     fn front(&self, call: &str, name: &str, front: &[T]) {
-        let mut wanted = front.to_vec();
-        wanted.extend((GUARDS + front.len()..GUARDS + self.length).map(T::stale));
-        self.same(call, name, &wanted);
+        self.guards(call, name);
+        let place = (0..self.length).find(|&place| self.words()[place] != *front.get(place).unwrap_or(&T::stale(GUARDS + place)));
+        if let Some(place) = place {
+            let (got, want) = (self.words()[place], front.get(place).copied().unwrap_or(T::stale(GUARDS + place)));
+            differ(call, &format!("`{name}`[{place}] is {got:?}, should be {want:?}"));
+        }
+        assert!(front.len() <= self.length);
+    }
+}
+
+/// Longer ones are lent as they stand, without guard words: columns and lists that are mapped, or fill much of the memory.
+const COPIED_AT_MOST: usize = (1 << 24) + 32;
+
+/// A column or a list, lent to be read.
+enum Lent<'a, T> {
+    Copied(Space<T>),
+    AsItStands(&'a [T]),
+}
+
+impl<T: Word> Lent<'_, T> {
+    fn of(words: &[T]) -> Lent<'_, T> {
+        if words.len() <= COPIED_AT_MOST {
+            Lent::Copied(Space::of(words))
+        } else {
+            Lent::AsItStands(words)
+        }
+    }
+
+    fn ptr(&self) -> *const T {
+        match self {
+            Lent::Copied(space) => space.ptr(),
+            Lent::AsItStands(words) => words.as_ptr(),
+        }
+    }
+
+    fn len(&self) -> usize {
+        match self {
+            Lent::Copied(space) => space.len(),
+            Lent::AsItStands(words) => words.len(),
+        }
+    }
+
+    /// What was lent as it stands can't be compared with itself: whoever lends it sees to that.
+    fn same(&self, call: &str, name: &str, wanted: &[T]) {
+        if let Lent::Copied(space) = self {
+            space.same(call, name, wanted);
+        }
     }
 }
 
@@ -149,7 +193,7 @@ impl Numbers {
 
 pub fn build(column: &[i32], spaces: [usize; 3]) -> Result<Index, No> {
     let answer = plain::build(column, spaces);
-    let lent = Space::of(column);
+    let lent = Lent::of(column);
     let mut borders = Space::<i32>::stale(spaces[0]);
     let mut imprints = Space::<u64>::stale(spaces[1]);
     let mut dictionary = Space::<u32>::stale(spaces[2]);
@@ -181,7 +225,7 @@ pub fn build(column: &[i32], spaces: [usize; 3]) -> Result<Index, No> {
 
 pub fn pack(list: &[u64], borders: &[i32], spaces: [usize; 2]) -> Result<(Vec<u64>, Vec<u32>), No> {
     let answer = plain::pack(list, borders, spaces);
-    let (lent, lent_borders) = (Space::of(list), Space::of(borders));
+    let (lent, lent_borders) = (Lent::of(list), Space::of(borders));
     let mut imprints = Space::<u64>::stale(spaces[0]);
     let mut dictionary = Space::<u32>::stale(spaces[1]);
     let mut out = Space::<u64>::stale(3);
@@ -202,11 +246,11 @@ pub fn pack(list: &[u64], borders: &[i32], spaces: [usize; 2]) -> Result<(Vec<u6
     number(call, got, &answer);
     lent.same(call, "list", list);
     lent_borders.same(call, "borders", borders);
-    let (kept, entries) = answer.clone().unwrap_or_default();
+    let (kept, entries) = answer.as_ref().map_or((&[][..], &[][..]), |(kept, entries)| (kept, entries));
     let lengths = [needed(&answer), kept.len() as u64, entries.len() as u64];
     out.same(call, "out", &lengths);
-    imprints.front(call, "imprints", &kept);
-    dictionary.front(call, "dictionary", &entries);
+    imprints.front(call, "imprints", kept);
+    dictionary.front(call, "dictionary", entries);
     answer
 }
 
@@ -218,7 +262,7 @@ fn with_front<T: Word>(front: &[T], before: &[T]) -> Vec<T> {
 /// Leaves in the spaces what the library left there, and tells the new lengths.
 pub fn append(column: &[i32], covered: u64, index: &mut Told) -> Result<Index, No> {
     let answer = plain::append(column, covered, index);
-    let (lent, borders) = (Space::of(column), Space::of(&index.borders));
+    let (lent, borders) = (Lent::of(column), Space::of(&index.borders));
     let mut imprints = Space::of(&index.imprints);
     let mut dictionary = Space::of(&index.dictionary);
     let mut out = Space::<u64>::stale(3);
@@ -320,7 +364,7 @@ pub fn step(dictionary: &[u32], imprints: &[u64], at: Position) -> Result<(Optio
 
 pub fn search(column: &[i32], index: &Index, low: i32, high: i32, space: usize) -> Result<Found, No> {
     let answer = plain::search(column, &index.borders, &index.imprints, &index.dictionary, low, high, space);
-    let (lent, parts) = (Space::of(column), Parts::of(index));
+    let (lent, parts) = (Lent::of(column), Parts::of(index));
     let mut ids = Space::<u32>::stale(space);
     let mut out = Space::<u64>::stale(5);
     let got = unsafe {
@@ -451,7 +495,7 @@ pub fn read(words: &[u32]) -> Result<[u64; 4], No> {
 
 pub fn guarded(words: &mut Vec<u32>, column: &[i32], index: &Index, low: u32, high: u32, space: usize) -> Result<(Outcome, Found), No> {
     let answer = plain::guarded(words, column, &index.borders, &index.imprints, &index.dictionary, low, high, space);
-    let (lent, parts) = (Space::of(column), Parts::of(index));
+    let (lent, parts) = (Lent::of(column), Parts::of(index));
     let mut lent_words = Space::of(words);
     let mut ids = Space::<u32>::stale(space);
     let mut out = Space::<u64>::stale(6);
@@ -493,7 +537,7 @@ pub fn guarded(words: &mut Vec<u32>, column: &[i32], index: &Index, low: u32, hi
 
 pub fn register(minutes: &[i32], space: usize) -> Result<Vec<Entry>, No> {
     let answer = plain::register(minutes, space);
-    let lent = Space::of(minutes);
+    let lent = Lent::of(minutes);
     let mut words = Space::<u32>::stale(space);
     let mut out = Space::<u64>::stale(3);
     let got = unsafe { mgz_register(lent.ptr(), lent.len(), words.mut_ptr(), words.len(), out.mut_ptr()) };

@@ -1,9 +1,11 @@
 //! Document 01, with what document 02 adds, said in plain Rust: slow, short, one function a sentence. Nothing here is taken from the proved
 //! code.
 use std::collections::HashMap;
+use std::iter::repeat_n;
 
-pub const ROWS_AT_MOST: usize = 16_777_216;
-pub const LINES_AT_MOST: u64 = 1_048_576;
+/// Request 107: the longest column, and its lines.
+pub const ROWS_AT_MOST: usize = 4_294_967_295;
+pub const LINES_AT_MOST: u64 = 268_435_456;
 pub const ROWS_PER_LINE: usize = 16;
 pub const ROOM_AT_MOST: u32 = 4_095;
 
@@ -117,67 +119,105 @@ pub fn borders_good(borders: &[i32]) -> bool {
 
 pub const REPEAT: u32 = 1 << 24;
 pub const COUNT: u32 = REPEAT - 1;
+/// The largest count that an entry's word has room for: such an entry is full.
+pub const LARGEST: usize = COUNT as usize;
 
-/// The longest runs of equal words: the word and how often it stands there.
-pub fn runs(list: &[u64]) -> Vec<(u64, usize)> {
-    let mut runs: Vec<(u64, usize)> = Vec::new();
-    for &word in list {
-        match runs.last_mut() {
-            Some((last, times)) if *last == word => *times += 1,
-            _ => runs.push((word, 1)),
-        }
+/// A word, and how often it stands there in a row.
+pub type Run = (u64, usize);
+
+/// One more word behind these runs, so many times.
+fn push(runs: &mut Vec<Run>, word: u64, times: usize) {
+    match runs.last_mut() {
+        Some(last) if last.0 == word => last.1 += times,
+        _ => runs.push((word, times)),
     }
+}
+
+/// The longest runs of equal words.
+pub fn runs(list: &[u64]) -> Vec<Run> {
+    let mut runs = Vec::new();
+    list.iter().for_each(|&word| push(&mut runs, word, 1));
     runs
 }
 
-/// The imprints kept and the dictionary.
-pub fn packing(list: &[u64]) -> (Vec<u64>, Vec<u32>) {
-    let runs = runs(list);
+/// The words of these runs, one after the other.
+pub fn each_word(runs: &[Run]) -> impl Iterator<Item = u64> + '_ {
+    runs.iter().flat_map(|&(word, times)| repeat_n(word, times))
+}
+
+/// How many words there are in these runs.
+fn length(runs: &[Run]) -> u64 {
+    runs.iter().map(|run| run.1 as u64).sum()
+}
+
+/// The imprints kept and the dictionary of a list with these longest runs, where an entry counts to `largest`, 2 or more (request 107).
+/// Neighbouring runs of one are gathered into plain entries, full ones first. A run of two or more becomes full repeat entries and one
+/// entry for what is left; a line that is left alone is a plain entry of its own.
+pub fn packing_of(largest: usize, runs: &[Run]) -> (Vec<u64>, Vec<u32>) {
     let (mut kept, mut dictionary) = (Vec::new(), Vec::new());
-    let mut at = 0;
-    while at < runs.len() {
-        if 2 <= runs[at].1 {
-            kept.push(runs[at].0);
-            dictionary.push(REPEAT + runs[at].1 as u32);
-            at += 1;
-        } else {
-            let from = at;
-            while at < runs.len() && runs[at].1 == 1 {
-                kept.push(runs[at].0);
-                at += 1;
-            }
-            dictionary.push((at - from) as u32);
+    for group in runs.chunk_by(|one, next| one.1 == 1 && next.1 == 1) {
+        let (word, times) = group[0];
+        if times == 1 {
+            kept.extend(group.iter().map(|run| run.0));
+            dictionary.extend(group.chunks(largest).map(|entry| entry.len() as u32));
+            continue;
+        }
+        let (full, left) = (times / largest, times % largest);
+        kept.extend(repeat_n(word, full));
+        dictionary.extend(repeat_n(REPEAT + largest as u32, full));
+        if left != 0 {
+            kept.push(word);
+            dictionary.push(if left == 1 { 1 } else { REPEAT + left as u32 });
         }
     }
     (kept, dictionary)
 }
 
-/// Nonzero, and no bit at or above the number of bins.
-pub fn fit(borders: &[i32], word: u64) -> bool {
-    let bins = borders.len() + 1;
-    word != 0 && (0..64).all(|bit| bit < bins || word >> bit & 1 == 0)
+pub fn packing_with(largest: usize, list: &[u64]) -> (Vec<u64>, Vec<u32>) {
+    packing_of(largest, &runs(list))
 }
 
-/// The list of which these words are the packing: of fit words, one per line. There is none where 3 is due.
-pub fn listed(borders: &[i32], imprints: &[u64], dictionary: &[u32], lines: u64) -> Option<Vec<u64>> {
-    let mut list = Vec::new();
-    let mut number = 0;
+/// The imprints kept and the dictionary.
+pub fn packing(list: &[u64]) -> (Vec<u64>, Vec<u32>) {
+    packing_with(LARGEST, list)
+}
+
+/// Nonzero, and no bit at or above the number of bins.
+pub fn fit(borders: &[i32], word: u64) -> bool {
+    let bins = borders.len() as u32 + 1;
+    word != 0 && word.checked_shr(bins).unwrap_or(0) == 0
+}
+
+/// What the words stand for, entry by entry, as longest runs; nothing where an imprint is wanting.
+pub fn stood_for(imprints: &[u64], dictionary: &[u32]) -> Option<Vec<Run>> {
+    let mut runs = Vec::new();
+    let mut left = imprints;
     for &entry in dictionary {
         let count = (entry & COUNT) as usize;
-        if lines < (list.len() + count) as u64 {
-            return None;
-        }
-        for place in 0..count {
-            list.push(*imprints.get(number)?);
-            if entry & REPEAT == 0 || place + 1 == count {
-                number += 1;
-            }
-        }
+        let kept = if entry & REPEAT == 0 { count } else { 1 };
+        let (own, behind) = left.split_at_checked(kept)?;
+        let times = if entry & REPEAT == 0 { 1 } else { count };
+        own.iter().for_each(|&word| push(&mut runs, word, times));
+        left = behind;
     }
-    let good = list.len() as u64 == lines
-        && list.iter().all(|&word| fit(borders, word))
-        && packing(&list) == (imprints.to_vec(), dictionary.to_vec());
-    good.then_some(list)
+    Some(runs)
+}
+
+/// The list of which these words are the packing, as longest runs: of fit words, one per line. There is none where 3 is due.
+pub fn accepted_with(largest: usize, borders: &[i32], imprints: &[u64], dictionary: &[u32], lines: u64) -> Option<Vec<Run>> {
+    let runs = stood_for(imprints, dictionary)?;
+    let (kept, entries) = packing_of(largest, &runs);
+    let good = kept == imprints && entries == dictionary && runs.iter().all(|run| fit(borders, run.0)) && length(&runs) == lines;
+    good.then_some(runs)
+}
+
+pub fn accepted(borders: &[i32], imprints: &[u64], dictionary: &[u32], lines: u64) -> Option<Vec<Run>> {
+    accepted_with(LARGEST, borders, imprints, dictionary, lines)
+}
+
+/// That list, word by word.
+pub fn listed(borders: &[i32], imprints: &[u64], dictionary: &[u32], lines: u64) -> Option<Vec<u64>> {
+    accepted(borders, imprints, dictionary, lines).map(|runs| each_word(&runs).collect())
 }
 
 #[derive(Clone, Copy, Debug, PartialEq, Eq)]
@@ -276,13 +316,13 @@ pub fn unpack(borders: &[i32], imprints: &[u64], dictionary: &[u32], lines: u64,
     if !borders_good(borders) {
         return no(5);
     }
-    let Some(list) = listed(borders, imprints, dictionary, lines) else {
+    let Some(runs) = accepted(borders, imprints, dictionary, lines) else {
         return no(3);
     };
-    if space < list.len() {
-        return short(list.len());
+    if (space as u64) < lines {
+        return short(lines as usize);
     }
-    Ok(list)
+    Ok(each_word(&runs).collect())
 }
 
 /// An index at the front of imprint and dictionary spaces that may be longer than it: the lengths of these two parts are told.
@@ -301,11 +341,19 @@ fn told<T>(space: &[T], length: u64) -> Option<&[T]> {
 }
 
 /// The imprints of lines that were full as they stood, those of every later line from the longer column.
-pub fn extended(column: &[i32], covered: usize, borders: &[i32], mut list: Vec<u64>) -> Vec<u64> {
+pub fn extended(column: &[i32], covered: usize, borders: &[i32], covering: &[Run]) -> Vec<Run> {
     let full = covered / ROWS_PER_LINE;
-    list.truncate(full);
-    list.extend(line_imprints(&column[full * ROWS_PER_LINE..], borders));
-    list
+    let (mut runs, mut left) = (Vec::new(), full);
+    for &(word, times) in covering {
+        let stay = times.min(left);
+        left -= stay;
+        if stay != 0 {
+            push(&mut runs, word, stay);
+        }
+    }
+    let later = column[full * ROWS_PER_LINE..].chunks(ROWS_PER_LINE);
+    later.for_each(|line| push(&mut runs, imprint(borders, line), 1));
+    runs
 }
 
 /// Document 02, request 101: the index that stands in the spaces afterwards. Their words past it stay.
@@ -324,10 +372,10 @@ pub fn append(column: &[i32], covered: u64, index: &Told) -> Result<Index, No> {
     else {
         return no(3);
     };
-    let Some(list) = listed(&index.borders, imprints, dictionary, lines(covered) as u64) else {
+    let Some(runs) = accepted(&index.borders, imprints, dictionary, lines(covered) as u64) else {
         return no(3);
     };
-    let (imprints, dictionary) = packing(&extended(column, covered, &index.borders, list));
+    let (imprints, dictionary) = packing_of(LARGEST, &extended(column, covered, &index.borders, &runs));
     if index.imprints.len() < imprints.len() {
         return short(imprints.len());
     }
@@ -371,9 +419,9 @@ pub fn matches(v: i32, low: i32, high: i32) -> bool {
 }
 
 /// What the lines of these imprints list with these masks.
-pub fn rows_of(column: &[i32], list: &[u64], (mask, inner): (u64, u64), low: i32, high: i32) -> Found {
+pub fn rows_of(column: &[i32], list: impl Iterator<Item = u64>, (mask, inner): (u64, u64), low: i32, high: i32) -> Found {
     let mut found = Found::default();
-    for (line, &word) in list.iter().enumerate() {
+    for (line, word) in list.enumerate() {
         let rows = line * ROWS_PER_LINE..column.len().min((line + 1) * ROWS_PER_LINE);
         if word & mask == 0 {
             found.skipped += 1;
@@ -393,7 +441,7 @@ pub fn scan(column: &[i32], low: i32, high: i32) -> Vec<u32> {
     (0..column.len()).filter(|&row| matches(column[row], low, high)).map(|row| row as u32).collect()
 }
 
-fn index_list(column: &[i32], borders: &[i32], imprints: &[u64], dictionary: &[u32]) -> Result<Vec<u64>, No> {
+pub fn index_runs(column: &[i32], borders: &[i32], imprints: &[u64], dictionary: &[u32]) -> Result<Vec<Run>, No> {
     if ROWS_AT_MOST < column.len() {
         return no(2);
     }
@@ -401,7 +449,7 @@ fn index_list(column: &[i32], borders: &[i32], imprints: &[u64], dictionary: &[u
         return no(5);
     }
     let lines = lines(column.len()) as u64;
-    listed(borders, imprints, dictionary, lines).ok_or(No::of(3))
+    accepted(borders, imprints, dictionary, lines).ok_or(No::of(3))
 }
 
 pub fn search(
@@ -413,11 +461,11 @@ pub fn search(
     high: i32,
     space: usize,
 ) -> Result<Found, No> {
-    let list = index_list(column, borders, imprints, dictionary)?;
+    let runs = index_runs(column, borders, imprints, dictionary)?;
     if high < low {
         return no(1);
     }
-    let found = rows_of(column, &list, masks(borders, low, high), low, high);
+    let found = rows_of(column, each_word(&runs), masks(borders, low, high), low, high);
     if space < found.ids.len() {
         return short(found.ids.len());
     }
@@ -677,7 +725,7 @@ pub fn guarded(
     space: usize,
 ) -> Result<(Outcome, Found), No> {
     let filter = meant_with_range(words, low, high)?;
-    index_list(column, borders, imprints, dictionary)?;
+    index_runs(column, borders, imprints, dictionary)?;
     if denies(&filter, low, high) {
         return Ok((Outcome::Denied, Found::default()));
     }

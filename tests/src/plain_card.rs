@@ -68,7 +68,8 @@ pub fn image(rows: u64, index: &Index) -> Vec<u8> {
     blocks(&payload(rows, index))
 }
 
-/// 2, 5 or 3 where the words are no index of so many rows.
+/// 2, 5 or 3 where the words are no index of so many rows. Rows that a header tells have four bytes, so 2 is none of theirs: it is the
+/// writer's, and a state's that was handed in.
 pub fn is_index(rows: u64, index: &Index) -> Result<(), No> {
     if (plain::ROWS_AT_MOST as u64) < rows {
         return Err(No::of(2));
@@ -77,7 +78,7 @@ pub fn is_index(rows: u64, index: &Index) -> Result<(), No> {
         return Err(No::of(5));
     }
     let lines = plain::lines(rows as usize) as u64;
-    plain::listed(&index.borders, &index.imprints, &index.dictionary, lines).map(|_| ()).ok_or(No::of(3))
+    plain::accepted(&index.borders, &index.imprints, &index.dictionary, lines).map(|_| ()).ok_or(No::of(3))
 }
 
 /// The image, at the front of a card of `space` bytes.

@@ -1,7 +1,8 @@
 //! Append, document 02's request 101, held against the plain implementation.
 use outside_tests::held::{self, Numbers};
 use outside_tests::inputs::{self, every_column, in_spaces, rounds, strange_index, Dice};
-use outside_tests::plain::{self, carried, Index, Told, REPEAT};
+use outside_tests::mapped::Zeros;
+use outside_tests::plain::{self, carried, Index, Told, COUNT, REPEAT};
 
 /// Covered numbers at the edges of lines, at both ends of the column, and anywhere.
 fn cuts(dice: &mut Dice, rows: usize) -> Vec<usize> {
@@ -117,7 +118,7 @@ fn each_damage_alone() {
 #[test]
 fn order_of_checks() {
     let column = vec![3; 40];
-    let long = vec![3; plain::ROWS_AT_MOST + 1];
+    let long = Zeros::of(plain::ROWS_AT_MOST + 1);
     let good = in_spaces(&plain::index(&column[..20]), [1, 1]);
     let bad_borders = Told { borders: vec![4, 4], ..good.clone() };
     let beyond = Told { imprints_told: 2, ..good.clone() };
@@ -316,20 +317,34 @@ fn every_small_list() {
     assert!(20 < shorter, "{shorter}");
 }
 
-/// Up to the longest column, and one row past it.
+/// Up to document 01's longest column, and one row past it.
 #[test]
-fn longest_column() {
-    let mut column = vec![7; plain::ROWS_AT_MOST];
+fn long_column() {
+    let column = vec![7; 16_777_217];
     let index = |lines| Index { borders: vec![7], imprints: vec![2], dictionary: vec![REPEAT + lines] };
-    for covered in [16_777_199, 16_777_200, 16_777_201, 16_777_215, 16_777_216] {
+    for covered in [16_777_199, 16_777_200, 16_777_201, 16_777_215, 16_777_216, 16_777_217] {
         held::case(format!("covered {covered}"));
         let old = index(plain::lines(covered) as u32);
-        assert_eq!(held::append(&column, covered as u64, &mut in_spaces(&old, [1, 1])), Ok(index(1_048_576)));
+        assert_eq!(held::append(&column, covered as u64, &mut in_spaces(&old, [1, 1])), Ok(index(1_048_577)));
     }
-    column.push(7);
-    let full = index(1_048_576);
-    assert_eq!(held::append(&column, 16_777_216, &mut in_spaces(&full, [2, 2])).unwrap_err().number, 2);
-    assert_eq!(held::append(&column, 16_777_217, &mut in_spaces(&full, [2, 2])).unwrap_err().number, 2);
+}
+
+/// Up to the longest column, and one row past it. All lines are alike: sixteen full entries, and one for what is left.
+#[test]
+fn longest_column() {
+    let column = Zeros::of(plain::ROWS_AT_MOST + 1);
+    let index = |left: u32| {
+        let dictionary = [[REPEAT + COUNT; 16].as_slice(), &[REPEAT + left]].concat();
+        Index { borders: vec![0], imprints: vec![2; 17], dictionary }
+    };
+    let longest = &column[..4_294_967_295];
+    for (covered, left) in [(4_294_967_279, 15), (4_294_967_280, 15), (4_294_967_281, 16), (4_294_967_294, 16), (4_294_967_295, 16)] {
+        held::case(format!("covered {covered}"));
+        assert_eq!(held::append(longest, covered, &mut in_spaces(&index(left), [17, 17])), Ok(index(16)));
+    }
+    assert_eq!(held::append(longest, 4_294_967_296, &mut in_spaces(&index(16), [17, 17])).unwrap_err().number, 17);
+    assert_eq!(held::append(&column, 4_294_967_295, &mut in_spaces(&index(16), [18, 18])).unwrap_err().number, 2);
+    assert_eq!(held::append(&column, 4_294_967_296, &mut in_spaces(&index(16), [18, 18])).unwrap_err().number, 2);
 }
 
 /// Many small columns, everything chosen at random.

@@ -191,17 +191,17 @@ fn writer_refuses_in_order() {
     let both = Index { dictionary: vec![3], ..borders.clone() };
     let unfit = Index { dictionary: vec![3], ..good.clone() };
     for space in [0, 511, 512] {
-        for rows in [16_777_217, 1 << 32, (1 << 32) + 40, u64::MAX] {
+        for rows in [4_294_967_296, (1 << 32) + 40, 1 << 33, u64::MAX] {
             for index in [&good, &both, &unfit] {
                 assert_eq!(held::card_write(rows, index, space), Err(No::of(2)));
             }
         }
-        for rows in [0, 40, 48, 16_777_216] {
+        for rows in [0, 40, 48, 16_777_217, 4_294_967_295] {
             assert_eq!(held::card_write(rows, &borders, space), Err(No::of(5)));
             assert_eq!(held::card_write(rows, &both, space), Err(No::of(5)));
             assert_eq!(held::card_write(rows, &unfit, space), Err(No::of(3)));
         }
-        for rows in [0, 31, 32, 49, 16_777_216] {
+        for rows in [0, 31, 32, 49, 16_777_217, 4_294_967_295] {
             assert_eq!(held::card_write(rows, &good, space), Err(No::of(3)));
         }
         for rows in 33..=48 {
@@ -225,14 +225,30 @@ fn writer_over_strange_indexes() {
     numbers.seen(&[0, 2, 3, 4, 5]);
 }
 
-/// The most rows in one run, and as many imprints as there can be; of these the reader is tried at both ends.
+/// The most rows, all lines alike: sixteen full entries, and one for what is left. Of as many rows as a header can tell none are too many.
 #[test]
-fn longest_columns() {
-    let rows = plain::ROWS_AT_MOST as u64;
-    let run = Index { borders: vec![7], imprints: vec![3], dictionary: vec![plain::REPEAT + plain::LINES_AT_MOST as u32] };
-    read_back(rows, &run, &held::card_write(rows, &run, 512).unwrap(), 0);
-    assert_eq!(held::card_write(rows + 1, &run, 512), Err(No::of(2)));
-    let index = singles_of(63, plain::LINES_AT_MOST as usize);
+fn longest_column() {
+    let rows = 4_294_967_295;
+    let dictionary = [[plain::REPEAT + plain::COUNT; 16].as_slice(), &[plain::REPEAT + 16]].concat();
+    let index = Index { borders: vec![7], imprints: vec![3; 17], dictionary };
+    let image = held::card_write(rows, &index, 512).unwrap();
+    assert_eq!(image[12..28], [255, 255, 255, 255, 1, 0, 0, 0, 17, 0, 0, 0, 17, 0, 0, 0]);
+    read_back(rows, &index, &image, 0);
+    for fewer in 1..15 {
+        assert!(held::card_write(rows - fewer, &index, 512).is_ok());
+    }
+    assert_eq!(held::card_write(rows - 15, &index, 512), Err(No::of(3)));
+    assert_eq!(held::card_write(rows + 1, &index, 512), Err(No::of(2)));
+    let one_less = Index { dictionary: [&index.dictionary[..16], &[plain::REPEAT + 15]].concat(), ..index.clone() };
+    assert_eq!(held::card_write(rows, &one_less, 512), Err(No::of(3)));
+    assert_eq!(read(&plain_card::image(rows, &one_less), [1, 17, 17]).err(), Some(No::of(3)));
+}
+
+/// Many imprints; the reader is tried at both ends.
+#[test]
+fn long_column() {
+    let rows = 16_777_216;
+    let index = singles_of(63, 1_048_576);
     let image = held::card_write(rows, &index, 16 + 20_000 * BLOCK).unwrap();
     assert_eq!(held::card_write(rows, &index, image.len() - 1), Err(No::short(image.len())));
     let blocks = image.len() / BLOCK;
@@ -567,7 +583,7 @@ fn header(counts: [u32; 4]) -> Vec<u8> {
 #[test]
 fn headers_that_claim() {
     const MOST: u32 = u32::MAX;
-    const COUNTS: [[u32; 4]; 14] = [
+    const COUNTS: [[u32; 4]; 15] = [
         [MOST; 4],
         [0, MOST, 0, 0],
         [0, 0, MOST, 0],
@@ -576,6 +592,7 @@ fn headers_that_claim() {
         [0, 3, 4, MOST],
         [MOST, 3, 4, 5],
         [16_777_217, 0, 0, 0],
+        [MOST, 0, 0, 0],
         [0, 0, 1 << 29, 0],
         [0, 1 << 30, 0, 0],
         [0, 0, 0, 1 << 30],
@@ -595,7 +612,7 @@ fn headers_that_claim() {
             }
         }
     }
-    numbers.seen(&[2, 4, 15]);
+    numbers.seen(&[3, 4, 15]);
     let mut payload = header([MOST; 4]);
     payload.resize(PAYLOAD, 7);
     assert_eq!(read(&plain_card::block(0, &payload), [63, 9, 9]).err(), Some(No::short(MOST as usize)));
@@ -708,6 +725,22 @@ fn refused_at_the_last(rows: u64, index: &Index) -> Result<(), No> {
     answer
 }
 
+/// More rows than a header has room to tell come with a state that is handed in. 2 is given for them at the last block alone, before 5
+/// and 3.
+fn told_too_many_rows(rows: u64, index: &Index) {
+    let image = plain_card::image(1600, index);
+    let last = image.len() / BLOCK - 1;
+    assert!(0 < last);
+    for number in 1..=last {
+        let mut reader = reader_at(number, 1600, index, &image);
+        reader.state.rows = rows;
+        let before = reader.spaces.clone();
+        let answer = reader.feed(&block_of(&image, number));
+        assert_eq!(answer, if number == last { Err(No::of(2)) } else { Ok(false) });
+        assert!(number != last || reader.spaces == before);
+    }
+}
+
 #[test]
 fn no_index_at_all() {
     let good = singles_of(9, 100);
@@ -718,10 +751,10 @@ fn no_index_at_all() {
     let long = Index { dictionary: vec![101], ..good.clone() };
     let unfit = Index { imprints: [&good.imprints[..99], &[1 << 10]].concat(), ..good.clone() };
     for index in [&good, &falling, &many, &zero, &long, &unfit] {
-        for rows in [16_777_217, 1 << 24 | 1600, u32::MAX as u64] {
-            assert_eq!(refused_at_the_last(rows, index), Err(No::of(2)));
+        for rows in [1 << 32, (1 << 32) + 1600, 1 << 63, u64::MAX] {
+            told_too_many_rows(rows, index);
         }
-        for rows in [0, 1584, 1601, 16_777_216] {
+        for rows in [0, 1584, 1601, 16_777_217, 1 << 24 | 1600, u32::MAX as u64] {
             let number = if index.borders == good.borders { 3 } else { 5 };
             assert_eq!(refused_at_the_last(rows, index), Err(No::of(number)));
         }
@@ -739,10 +772,10 @@ fn images_of_strange_indexes() {
     let mut numbers = Numbers::default();
     every_column(418, |dice, column| {
         let index = inputs::strange_index(dice, &column);
-        let off = dice.of(&[0, 0, 0, 1, 16, 16_777_216]);
+        let off = dice.of(&[0, 0, 0, 1, 16, 16_777_216, u32::MAX as u64 - column.len() as u64]);
         numbers.count(&refused_at_the_last(column.len() as u64 + off, &index));
     });
-    numbers.seen(&[0, 2, 3, 5]);
+    numbers.seen(&[0, 3, 5]);
 }
 
 /// What the words hold before the block counts at the last one: blocks of another index, or words that were changed between.

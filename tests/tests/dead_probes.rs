@@ -89,17 +89,17 @@ fn faults_only() {
     }
 }
 
-/// So too of the longest column, and of one that has a reading at its very end alone, which the stride doesn't meet.
+/// So too of a long column, and of one that has a reading at its very end alone, which the stride doesn't meet.
 #[test]
-fn longest_column() {
-    let mut column = vec![FAULT; plain::ROWS_AT_MOST];
+fn long_column() {
+    let mut column = vec![FAULT; 16_777_217];
     let index = held::build(&column, [0, 1, 1]).unwrap();
-    assert_eq!(index.dictionary, [REPEAT + 1_048_576]);
-    let mut found = Found { compared: 16_777_216, ..Found::default() };
+    assert_eq!(index.dictionary, [REPEAT + 1_048_577]);
+    let mut found = Found { compared: 16_777_217, ..Found::default() };
     assert_eq!(held::search(&column, &index, FAULT, i32::MAX, 0).unwrap(), found);
-    column[16_777_215] = 7;
+    column[16_777_216] = 7;
     assert_eq!(held::build(&column, [0, 1, 1]).unwrap(), index);
-    found.ids.push(16_777_215);
+    found.ids.push(16_777_216);
     assert_eq!(held::search(&column, &index, FAULT, i32::MAX, 1).unwrap(), found);
 }
 

@@ -1,7 +1,8 @@
 //! Document 01's examples, of the library, with what they must give written out.
 use outside_tests::face::*;
 use outside_tests::held;
-use outside_tests::plain::{Found, Index, Outcome};
+use outside_tests::mapped::Zeros;
+use outside_tests::plain::{Found, Index, Outcome, REPEAT};
 
 fn column_a() -> Vec<i32> {
     let mut column = vec![5; 32];
@@ -84,20 +85,24 @@ fn lengths() {
     let empty = Index { borders: vec![], imprints: vec![], dictionary: vec![] };
     assert_eq!(held::build(&[], [0, 0, 0]), Ok(empty.clone()));
     assert_eq!(held::search(&[], &empty, 0, 0, 0), Ok(Found::default()));
-    let long = vec![7; 16_777_217];
-    assert_eq!(held::build(&long, [63, 2, 2]).unwrap_err().number, 2);
-    assert_eq!(held::search(&long, &empty, 1, 0, 0).unwrap_err().number, 2);
-    let guarded = held::guarded(&mut fresh(4, 7), &long, &empty, 0, 3, 0);
-    assert_eq!(guarded.unwrap_err().number, 2);
-    let one = held::build(&long[1..], [1, 1, 1]).unwrap();
-    assert_eq!(one.dictionary, [16777216 + 1_048_576]);
+    // Refused as 2 until request 107.
+    let column = vec![7; 16_777_217];
+    let one = held::build(&column, [1, 1, 1]).unwrap();
+    assert_eq!(one.dictionary, [REPEAT + 1_048_577]);
     let list = vec![2; 1_048_577];
-    assert_eq!(held::pack(&list, &[7], [9, 9]).unwrap_err().number, 2);
-    assert_eq!(held::pack(&list[1..], &[7], [1, 1]).unwrap().1, one.dictionary);
-    assert_eq!(held::unpack(&one, 1_048_577, 1_048_577).unwrap_err().number, 2);
+    assert_eq!(held::pack(&list, &[7], [1, 1]).unwrap().1, one.dictionary);
+    assert_eq!(held::unpack(&one, 1_048_577, 1_048_577).unwrap(), list);
+    assert_eq!(held::unpack(&one, 1_048_577, 5).unwrap_err().needed, 1_048_577);
+    assert_eq!(held::search(&column, &one, 1, 0, 0).unwrap_err().number, 1);
+    assert_eq!(held::search(&column, &one, 8, 9, 0).unwrap().compared, 16_777_217);
+    let too_long = Zeros::of(4_294_967_296);
+    assert_eq!(held::build(&too_long, [63, 2, 2]).unwrap_err().number, 2);
+    assert_eq!(held::search(&too_long, &empty, 1, 0, 0).unwrap_err().number, 2);
+    let guarded = held::guarded(&mut fresh(4, 7), &too_long, &empty, 0, 3, 0);
+    assert_eq!(guarded.unwrap_err().number, 2);
+    assert_eq!(held::pack(&Zeros::of(268_435_457), &[7], [9, 9]).unwrap_err().number, 2);
+    assert_eq!(held::unpack(&one, 268_435_457, 9).unwrap_err().number, 2);
     assert_eq!(held::unpack(&one, u64::MAX, 0).unwrap_err().number, 2);
-    assert_eq!(held::unpack(&one, 1_048_576, 1_048_576).unwrap(), list[1..]);
-    assert_eq!(held::unpack(&one, 1_048_576, 5).unwrap_err().needed, 1_048_576);
 }
 
 #[test]

@@ -1,5 +1,6 @@
 //! The search with both, and demand 3's bound.
 use outside_tests::inputs::{self, rounds, Dice};
+use outside_tests::mapped::Zeros;
 use outside_tests::plain::{self, Index, Outcome, FAULT};
 use outside_tests::{face, held};
 
@@ -85,7 +86,7 @@ fn strange_index(dice: &mut Dice, column: &[i32], own: &Index) -> Index {
 fn order_of_checks() {
     let column = vec![3; 20];
     let index = plain::index(&column);
-    let long = vec![3; plain::ROWS_AT_MOST + 1];
+    let long = Zeros::of(plain::ROWS_AT_MOST + 1);
     let good = fresh(3, 3, 0);
     let bad_words = vec![0; 10];
     let bad_borders = Index { borders: vec![4, 4], ..index.clone() };

@@ -2,6 +2,7 @@
 use outside_tests::face::mgz_register;
 use outside_tests::held::{self, Numbers};
 use outside_tests::inputs::{self, rounds, Dice, LENGTHS};
+use outside_tests::mapped::Sparse;
 use outside_tests::plain::{self, Entry, No, FAULT};
 use std::collections::HashMap;
 
@@ -185,7 +186,7 @@ fn spaces() {
 /// 2, 13, 4: each stands before all that follow.
 #[test]
 fn order_of_checks() {
-    let mut long = vec![90; plain::ROWS_AT_MOST + 1];
+    let mut long = Sparse::of(plain::ROWS_AT_MOST + 1);
     assert_eq!(held::register(&long, 0), Err(No::of(2)));
     assert_eq!(held::register(&long, 8), Err(No::of(2)));
     long[5] = -1;
@@ -198,17 +199,24 @@ fn order_of_checks() {
     assert_eq!(held::register(&[90, 150, 150], 7), Err(No::short(8)));
 }
 
-/// Up to the longest column, and one row past it.
+/// One row past document 01's longest column.
+#[test]
+fn long_column() {
+    let mut minutes = vec![179; 16_777_217];
+    assert_eq!(register(&minutes), [[2, 0, 0, 16_777_217]]);
+    minutes[16_777_216] = 120;
+    assert_eq!(register(&minutes), [[2, 0, 0, 16_777_216], [2, 1, 16_777_216, 1]]);
+    assert_eq!(held::register(&minutes, 7), Err(No::short(8)));
+    minutes[16_777_216] = -1;
+    assert_eq!(held::register(&minutes, 8), Err(No::negative(16_777_216)));
+}
+
+/// The longest column is looked at, and one row more is not.
 #[test]
 fn longest_column() {
-    let mut minutes = vec![179; plain::ROWS_AT_MOST];
-    assert_eq!(register(&minutes), [[2, 0, 0, 16_777_216]]);
-    minutes[16_777_215] = 120;
-    assert_eq!(register(&minutes), [[2, 0, 0, 16_777_215], [2, 1, 16_777_215, 1]]);
-    assert_eq!(held::register(&minutes, 7), Err(No::short(8)));
-    minutes[16_777_215] = -1;
-    assert_eq!(held::register(&minutes, 8), Err(No::negative(16_777_215)));
-    minutes.push(-1);
+    let mut minutes = Sparse::of(4_294_967_296);
+    minutes[9] = -1;
+    assert_eq!(held::register(&minutes[..4_294_967_295], 8), Err(No::negative(9)));
     assert_eq!(held::register(&minutes, 8), Err(No::of(2)));
 }
 

@@ -134,7 +134,8 @@ pub struct Fed {
 /// Refused, in this order, with [`BadBlock`](Error::BadBlock) if the size or the check is wrong, [`OtherEdition`](Error::OtherEdition),
 /// [`BadBlock`](Error::BadBlock) for all else that is wrong with the block, its number among it; [`SpaceShort`](Error::SpaceShort) with the
 /// count of the first short space; and at the last block with [`ColumnTooLong`](Error::ColumnTooLong), [`BadBorders`](Error::BadBorders) or
-/// [`NotAnIndex`](Error::NotAnIndex) where sound blocks hold no index.
+/// [`NotAnIndex`](Error::NotAnIndex) where sound blocks hold no index. The first of these only where a state was handed in with so many
+/// rows: a header has no room for them.
 ///
 /// ```
 /// use miguzoryane::{card, Error, IndexBuf};
@@ -186,8 +187,9 @@ pub fn feed(block: &[u8], state: State, borders: &mut [i32], imprints: &mut [u64
 /// Reads an index from the card, block by block, in spaces of its own.
 ///
 /// The spaces are as long as the header in block 0 says, and never longer than an index can be: [`BORDERS_AT_MOST`] borders,
-/// [`LINES_AT_MOST`] imprints and as many dictionary words, some 12 MB. A header that claims more is refused as
-/// [`SpaceShort`](Error::SpaceShort) with the first such count, and nothing is allocated for it.
+/// [`LINES_AT_MOST`] imprints and as many dictionary words, some 3 GB. A header that claims more is refused as
+/// [`SpaceShort`](Error::SpaceShort) with the first such count, and nothing is allocated for it; so is one that claims more than there is
+/// memory for. What was allocated takes memory as blocks fill it.
 ///
 /// ```
 /// use miguzoryane::{card, Error, IndexBuf};
@@ -249,9 +251,9 @@ impl CardReader {
                 return Err(Error::SpaceShort { needed });
             }
         }
-        self.borders.resize(borders, 0);
-        self.imprints.resize(imprints, 0);
-        self.dictionary.resize(dictionary, 0);
+        self.borders = zeros(borders)?;
+        self.imprints = zeros(imprints)?;
+        self.dictionary = zeros(dictionary)?;
         Ok(())
     }
 
@@ -282,6 +284,15 @@ impl CardReader {
         self.dictionary.truncate(self.state.dictionary as usize);
         Ok(IndexBuf::of(self.state.rows as usize, self.borders, self.imprints, self.dictionary))
     }
+}
+
+/// So many zeros, if there is memory for them. It is not touched yet.
+fn zeros<T: Clone + Default>(length: usize) -> Result<Vec<T>, Error> {
+    let there_is = Vec::<T>::new().try_reserve_exact(length).is_ok();
+    if !there_is {
+        return Err(Error::SpaceShort { needed: length });
+    }
+    Ok(vec![T::default(); length])
 }
 
 /// Reads a whole image: nothing but its blocks, in order. The index that it gives [covers](IndexBuf::covered) as many rows as were written.

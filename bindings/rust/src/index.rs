@@ -18,7 +18,7 @@ pub struct Index<'a> {
     pub borders: &'a [i32],
     /// The imprints kept.
     pub imprints: &'a [u64],
-    /// Runs of lines: how many, and whether they share one imprint.
+    /// Runs of lines: how many, in bits 0 to 23, and whether they share one imprint, in bit 24.
     pub dictionary: &'a [u32],
 }
 
@@ -240,6 +240,12 @@ pub fn append<'a>(
 
 /// Packs a list of imprints, one per line, in two lent spaces. The index handed back has the borders given.
 ///
+/// A run of two or more equal imprints becomes a repeat entry of the dictionary, with its length and one imprint kept; neighbouring single
+/// ones are gathered into a plain entry, with their number and all imprints kept. Entries fill up, at
+/// [`COUNT_AT_MOST`](crate::COUNT_AT_MOST) lines: a longer run becomes full repeat entries and then one entry for what is left, where one
+/// line left over is a plain entry of its own, which gathers no later single; singles beyond a full plain entry start another. Other calls
+/// take this packing alone: the same lines in other entries are [`NotAnIndex`](Error::NotAnIndex).
+///
 /// ```
 /// let (mut imprints, mut dictionary) = ([0; 3], [0; 3]);
 /// let index = miguzoryane::pack(&[2, 2, 4], &[5, 20], &mut imprints, &mut dictionary)?;
@@ -277,6 +283,14 @@ pub fn pack<'a>(list: &[u64], borders: &'a [i32], imprints: &'a mut [u64], dicti
 /// let index = miguzoryane::Index { borders: &[5, 20], imprints: &[2, 4], dictionary: &[16777218, 1] };
 /// assert_eq!(miguzoryane::unpack(index, 3, &mut [0; 10])?, [2, 2, 4]);
 /// assert_eq!(miguzoryane::unpack(index, 4, &mut [0; 10]), Err(miguzoryane::Error::NotAnIndex));
+///
+/// // A run of a line more than an entry holds: a full repeat entry, and a plain one for the line that is left.
+/// let (repeat, full) = (1 << 24, miguzoryane::COUNT_AT_MOST);
+/// let long = miguzoryane::Index { borders: &[5, 20], imprints: &[2, 2], dictionary: &[repeat + full, 1] };
+/// let needed = full as usize + 1;
+/// assert_eq!(miguzoryane::unpack(long, needed, &mut []), Err(miguzoryane::Error::SpaceShort { needed }));
+/// let other = miguzoryane::Index { dictionary: &[repeat + full - 1, repeat + 2], ..long };
+/// assert_eq!(miguzoryane::unpack(other, needed, &mut []), Err(miguzoryane::Error::NotAnIndex));
 /// # Ok::<(), miguzoryane::Error>(())
 /// ```
 pub fn unpack<'a>(index: Index<'_>, lines: usize, list: &'a mut [u64]) -> Result<&'a mut [u64], Error> {

@@ -51,9 +51,11 @@ pub const FAULT: i32 = i32::MIN;
 /// A line is this many rows; the last one of a column may be shorter.
 pub const ROWS_PER_LINE: usize = 16;
 /// The longest column.
-pub const ROWS_AT_MOST: usize = 16_777_216;
+pub const ROWS_AT_MOST: usize = 4_294_967_295;
 /// The lines of the longest column.
-pub const LINES_AT_MOST: usize = 1_048_576;
+pub const LINES_AT_MOST: usize = 268_435_456;
+/// The most lines of a dictionary entry. One of so many is full, and [`pack`] tells what follows it.
+pub const COUNT_AT_MOST: u32 = 16_777_215;
 /// The most borders that an index has.
 pub const BORDERS_AT_MOST: usize = 63;
 /// The most levels that a filter has.

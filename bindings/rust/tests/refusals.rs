@@ -1,6 +1,22 @@
 //! Each number that a call can answer arrives as the error that names it, in the order of the documents' checks.
 #![allow(clippy::reversed_empty_ranges)]
 use miguzoryane::*;
+use std::ffi::c_void;
+
+extern "C" {
+    fn mmap(at: *mut c_void, bytes: usize, protection: i32, flags: i32, file: i32, offset: i64) -> *mut c_void;
+}
+
+/// Zeros that take no memory until they are written: an anonymous mapping (Linux), which stays.
+fn zeros<T: From<u8>>(length: usize) -> &'static mut [T] {
+    const READ_WRITE: i32 = 1 | 2;
+    const PRIVATE_ANONYMOUS_NORESERVE: i32 = 0x2 | 0x20 | 0x4000;
+    // SAFETY: a new mapping, which touches no other.
+    let at = unsafe { mmap(std::ptr::null_mut(), length * size_of::<T>(), READ_WRITE, PRIVATE_ANONYMOUS_NORESERVE, -1, 0) };
+    assert!(at as isize != -1, "no mapping of {length} words");
+    // SAFETY: it has this length and is handed out once; of the integers that are made here zero bytes are a value.
+    unsafe { std::slice::from_raw_parts_mut(at.cast(), length) }
+}
 
 const A: Index<'static> = Index { borders: &[5, 20], imprints: &[2, 4], dictionary: &[16777218, 1] };
 
@@ -13,12 +29,14 @@ fn of_the_index() {
     let column = column_a();
     let mut ids = [0; 40];
     let backwards = 6..=5;
-    let long = vec![0; ROWS_AT_MOST + 1];
+    let long = zeros(ROWS_AT_MOST + 1);
     let equal = Index { borders: &[5, 5], ..A };
     let damaged = Index { dictionary: &[3], ..A };
-    assert_eq!(IndexBuf::build(&long), Err(Error::ColumnTooLong));
-    assert_eq!(build(&long, &mut [], &mut [], &mut []), Err(Error::ColumnTooLong));
-    assert_eq!(search(&long, damaged, backwards.clone(), &mut ids), Err(Error::ColumnTooLong));
+    assert_eq!(IndexBuf::build(long), Err(Error::ColumnTooLong));
+    assert_eq!(build(long, &mut [], &mut [], &mut []), Err(Error::ColumnTooLong));
+    assert_eq!(search(long, damaged, backwards.clone(), &mut ids), Err(Error::ColumnTooLong));
+    // A row less is not too long: what is wrong with the index is told.
+    assert_eq!(search(&long[1..], equal, backwards.clone(), &mut ids), Err(Error::BadBorders));
     assert_eq!(search(&column, equal, backwards.clone(), &mut ids), Err(Error::BadBorders));
     assert_eq!(search(&column, damaged, backwards.clone(), &mut ids), Err(Error::NotAnIndex));
     assert_eq!(search(&column, A, backwards, &mut ids), Err(Error::LowAboveHigh));
@@ -26,19 +44,24 @@ fn of_the_index() {
     assert_eq!(build(&column, &mut [0; 2], &mut [0; 1], &mut [0; 1]), Err(Error::SpaceShort { needed: 2 }));
     assert_eq!(unpack(A, LINES_AT_MOST + 1, &mut []), Err(Error::ColumnTooLong));
     assert_eq!(unpack(A, 3, &mut [0; 2]), Err(Error::SpaceShort { needed: 3 }));
-    assert_eq!(pack(&vec![1; LINES_AT_MOST + 1], &[], &mut [], &mut []), Err(Error::ColumnTooLong));
+    let list = zeros(LINES_AT_MOST + 1);
+    assert_eq!(pack(list, &[], &mut [], &mut []), Err(Error::ColumnTooLong));
+    assert_eq!(pack(&list[1..], &[5, 5], &mut [], &mut []), Err(Error::BadBorders));
+    assert_eq!(unpack(A, LINES_AT_MOST, &mut []), Err(Error::NotAnIndex));
     assert_eq!(IndexBuf::build(&column).unwrap().as_index(), A);
 }
 
 #[test]
 fn of_an_append() {
     let column = [column_a(), vec![5; 8]].concat();
-    let long = vec![0; ROWS_AT_MOST + 1];
+    let long = zeros(ROWS_AT_MOST + 1);
     let (mut imprints, mut dictionary) = ([2, 4, 77], [16777218, 1, 77]);
     let mut refused = |column: &[i32], covered, borders: &[i32], told, spaces: usize| {
         append(column, covered, borders, &mut imprints[..spaces], told, &mut dictionary[..spaces], told).unwrap_err()
     };
-    assert_eq!(refused(&long, usize::MAX, &[5, 5], 9, 2), Error::ColumnTooLong);
+    assert_eq!(refused(long, usize::MAX, &[5, 5], 9, 2), Error::ColumnTooLong);
+    assert_eq!(refused(&long[1..], ROWS_AT_MOST + 1, &[5, 5], 9, 2), Error::CoveredAboveRows);
+    assert_eq!(refused(&long[1..], ROWS_AT_MOST, &[5, 5], 9, 2), Error::BadBorders);
     assert_eq!(refused(&column, 49, &[5, 5], 9, 2), Error::CoveredAboveRows);
     assert_eq!(refused(&column, 40, &[5, 5], 9, 2), Error::BadBorders);
     assert_eq!(refused(&column, 40, &[5, 20], 3, 2), Error::NotAnIndex);
@@ -64,7 +87,7 @@ fn of_an_index_that_grows() {
     assert_eq!(index.covered(), 400);
     let before = index.clone();
     assert_eq!(index.append(&column[..399]), Err(Error::CoveredAboveRows));
-    assert_eq!(index.append(&vec![0; ROWS_AT_MOST + 1]), Err(Error::ColumnTooLong));
+    assert_eq!(index.append(zeros(ROWS_AT_MOST + 1)), Err(Error::ColumnTooLong));
     assert_eq!(index, before);
     index.append(&column).unwrap();
     at_once.append(&column).unwrap();
@@ -122,17 +145,19 @@ fn of_the_search_with_both() {
     assert_eq!(guarded_search(&mut filter, &column, A, 3..=20, &mut []), Err(Error::SpaceShort { needed: 40 }));
     let counts = Counts { skipped: 1, whole: 0, compared: 32 };
     assert_eq!(guarded_search(&mut filter, &column, A, 6..=19, &mut ids), Ok(Outcome::EmptyNotLearnt(counts)));
-    let long = vec![0; ROWS_AT_MOST + 1];
-    assert_eq!(guarded_search(&mut filter, &long, A, 6..=19, &mut ids), Err(Error::ColumnTooLong));
+    let long = zeros(ROWS_AT_MOST + 1);
+    assert_eq!(guarded_search(&mut filter, long, A, 6..=19, &mut ids), Err(Error::ColumnTooLong));
+    assert_eq!(guarded_search(&mut filter, &long[1..], A, 6..=19, &mut ids), Err(Error::NotAnIndex));
 }
 
 #[test]
 fn of_a_register() {
-    let mut long = vec![150; ROWS_AT_MOST + 1];
+    let long = zeros(ROWS_AT_MOST + 1);
     let mut words = [77; 9];
     long[7] = -1;
-    assert_eq!(register(&long, &mut words), Err(Error::ColumnTooLong));
-    assert_eq!(RegisterBuf::of(&long), Err(Error::ColumnTooLong));
+    assert_eq!(register(long, &mut words), Err(Error::ColumnTooLong));
+    assert_eq!(RegisterBuf::of(long), Err(Error::ColumnTooLong));
+    assert_eq!(register(&long[1..], &mut words), Err(Error::NegativeMinute { row: 6 }));
     assert_eq!(register(&long[..8], &mut []), Err(Error::NegativeMinute { row: 7 }));
     assert_eq!(register(&[FAULT, -1], &mut words), Err(Error::NegativeMinute { row: 0 }));
     assert_eq!(RegisterBuf::of(&[0, 60, -60, FAULT]), Err(Error::NegativeMinute { row: 2 }));
@@ -203,7 +228,7 @@ fn of_a_card_that_is_read() {
     assert_eq!(read(4, &[2]), Error::OtherEdition { block: 0 });
     assert_eq!(read(0, &[1]), Error::BadBlock { block: 0 });
     assert_eq!(read(8, &[52]), Error::BadBlock { block: 0 });
-    assert_eq!(read(12, &[1, 0, 0, 1]), Error::ColumnTooLong);
+    assert_eq!(read(12, &[255; 4]), Error::NotAnIndex);
     assert_eq!(read(28, &[20]), Error::BadBorders);
     assert_eq!(read(36, &[0]), Error::NotAnIndex);
     assert_eq!(read(12, &[49]), Error::NotAnIndex);
@@ -218,16 +243,16 @@ fn of_a_card_that_claims() {
     for (at, bytes, needed) in [
         (12, [255; 16], u32::MAX as usize),
         (16, [64, 0, 0, 0, 255, 255, 255, 255, 255, 255, 255, 255, 0, 0, 0, 0], 64),
-        (16, [63, 0, 0, 0, 1, 0, 16, 0, 255, 255, 255, 255, 0, 0, 0, 0], 1_048_577),
-        (16, [63, 0, 0, 0, 0, 0, 16, 0, 0, 0, 0, 128, 0, 0, 0, 0], 1 << 31),
+        (16, [63, 0, 0, 0, 1, 0, 0, 16, 255, 255, 255, 255, 0, 0, 0, 0], 268_435_457),
+        (16, [63, 0, 0, 0, 0, 0, 0, 16, 0, 0, 0, 128, 0, 0, 0, 0], 1 << 31),
     ] {
         assert_eq!(reader.feed(&sealed(&full, at, &bytes)), Err(Error::SpaceShort { needed }));
         assert_eq!((reader.due(), reader.ended()), (0, false));
     }
     // As much as any index has is taken.
     let mut most = reader.clone();
-    assert_eq!(most.feed(&sealed(&full, 16, &[63, 0, 0, 0, 0, 0, 16, 0, 0, 0, 16, 0])), Ok(false));
-    assert_eq!(most.state(), card::State { due: 1, rows: 40, borders: 63, imprints: 1 << 20, dictionary: 1 << 20 });
+    assert_eq!(most.feed(&sealed(&full, 16, &[63, 0, 0, 0, 0, 0, 0, 16, 0, 0, 0, 16])), Ok(false));
+    assert_eq!(most.state(), card::State { due: 1, rows: 40, borders: 63, imprints: 1 << 28, dictionary: 1 << 28 });
     assert_eq!(most.finish(), Err(Error::BadBlock { block: 1 }));
     // Spaces that were made for a block 0 that holds no index are not too long for the next.
     let longer = card::image(100, Index { borders: &[1, 2, 3], imprints: &[1, 2, 1, 2, 1, 2, 1], dictionary: &[7] }).unwrap();

@@ -8,9 +8,10 @@ mod plain;
 #[allow(dead_code)]
 #[path = "../../src/plain_card.rs"]
 mod plain_card;
-use plain::{Entry, Filter, Found, Index, No, Outcome, Position, Told};
+use plain::{Entry, Filter, Found, Index, No, Outcome, Position, Run, Told, LARGEST, REPEAT};
 use plain_card::{Fed, State, BLOCK, CHECKED, EDITION, PAYLOAD};
 use std::collections::HashMap;
+use std::iter::repeat_n;
 use std::slice::{from_raw_parts, from_raw_parts_mut};
 use std::sync::OnceLock;
 
@@ -37,6 +38,74 @@ fn number<T>(answer: &Result<T, No>) -> u32 {
 
 fn needed<T>(answer: &Result<T, No>) -> u64 {
     answer.as_ref().err().map_or(0, |no| no.needed)
+}
+
+/// What is said wrongly of a row count just at the limit, or one above it.
+fn misjudged(rows: u64, at_the_limit: bool, above_it: bool) -> Option<No> {
+    let limit = plain::ROWS_AT_MOST as u64;
+    (at_the_limit && rows == limit).then_some(No::of(2)).or((above_it && rows == limit + 1).then_some(No::of(3)))
+}
+
+/// Slips where an entry is full.
+#[derive(Default)]
+struct Slips {
+    run_goes_on: bool,
+    plain_goes_on: bool,
+    left_line_gathers: bool,
+    left_line_repeats: bool,
+}
+
+impl Slips {
+    fn any(&self) -> bool {
+        self.run_goes_on || self.plain_goes_on || self.left_line_gathers || self.left_line_repeats
+    }
+
+    /// The packing of a list with these runs, with the slips.
+    fn packing(&self, runs: &[Run]) -> (Vec<u64>, Vec<u32>) {
+        let (of_runs, of_plain) = (LARGEST + self.run_goes_on as usize, LARGEST + self.plain_goes_on as usize);
+        let (mut kept, mut dictionary) = (Vec::new(), Vec::new());
+        let mut left_before = false;
+        for group in runs.chunk_by(|one, next| one.1 == 1 && next.1 == 1) {
+            let (word, times) = group[0];
+            if times == 1 {
+                kept.extend(group.iter().map(|run| run.0));
+                let mut counts: Vec<u32> = group.chunks(of_plain).map(|entry| entry.len() as u32).collect();
+                if left_before && self.left_line_gathers {
+                    *dictionary.last_mut().unwrap() += counts.remove(0);
+                }
+                dictionary.extend(counts);
+                left_before = false;
+                continue;
+            }
+            let (full, left) = (times / of_runs, times % of_runs);
+            kept.extend(repeat_n(word, full + (left != 0) as usize));
+            dictionary.extend(repeat_n(REPEAT + of_runs as u32, full));
+            left_before = full != 0 && left == 1;
+            match left {
+                0 => (),
+                1 if !self.left_line_repeats => dictionary.push(1),
+                _ => dictionary.push(REPEAT + left as u32),
+            }
+        }
+        (kept, dictionary)
+    }
+}
+
+/// The right words for wrong ones that a slip in acceptance takes.
+fn retaken(imprints: &[u64], dictionary: &[u32]) -> Option<(Vec<u64>, Vec<u32>)> {
+    let slips = Slips {
+        left_line_gathers: fault("gathered-left-line-accepted"),
+        left_line_repeats: fault("repeated-left-line-accepted"),
+        ..Slips::default()
+    };
+    let anyhow = fault("long-run-cut-anyhow-accepted");
+    if !slips.any() && !anyhow {
+        return None;
+    }
+    let runs = plain::stood_for(imprints, dictionary)?;
+    let slipped = slips.any() && slips.packing(&runs) == (imprints.to_vec(), dictionary.to_vec());
+    let cut = anyhow && runs.iter().any(|run| LARGEST < run.1);
+    (slipped || cut).then(|| plain::packing_of(LARGEST, &runs))
 }
 
 /// The readings.
@@ -100,11 +169,20 @@ fn misimprinted(column: &[i32], borders: &[i32]) -> Option<Vec<u64>> {
 }
 
 fn built(column: &[i32], spaces: [usize; 3]) -> Result<Index, No> {
+    if let Some(no) = misjudged(column.len() as u64, false, fault("build-takes-a-row-more")) {
+        return Err(no);
+    }
     let answer = plain::build(column, spaces);
     if number(&answer) == 2 {
         return answer;
     }
     let borders = plain::borders(column);
+    let slips =
+        Slips { run_goes_on: fault("build-full-run-goes-on"), left_line_gathers: fault("build-left-line-gathered"), ..Slips::default() };
+    if slips.any() {
+        let (imprints, dictionary) = slips.packing(&plain::runs(&plain::line_imprints(column, &borders)));
+        return plain::fitting(Index { borders, imprints, dictionary }, spaces);
+    }
     if let Some(list) = misimprinted(column, &borders) {
         let (imprints, dictionary) = plain::packing(&list);
         return plain::fitting(Index { borders, imprints, dictionary }, spaces);
@@ -170,6 +248,9 @@ pub unsafe extern "C" fn mgz_build(
 }
 
 fn appended(column: &[i32], covered: u64, index: &Told) -> Result<Index, No> {
+    if let Some(no) = misjudged(column.len() as u64, fault("append-2-at-the-longest"), fault("append-takes-a-row-more")) {
+        return Err(no);
+    }
     let beyond = (index.imprints.len() as u64) < index.imprints_told || (index.dictionary.len() as u64) < index.dictionary_told;
     if fault("told-before-borders") && beyond && column.len() <= plain::ROWS_AT_MOST && covered <= column.len() as u64 {
         return Err(No::of(3));
@@ -187,6 +268,19 @@ fn appended(column: &[i32], covered: u64, index: &Told) -> Result<Index, No> {
     }
     if let (0, Ok(after), Some(list)) = (covered, &mut answer, misimprinted(column, &index.borders)) {
         (after.imprints, after.dictionary) = plain::packing(&list);
+        after.imprints.truncate(index.imprints.len());
+        after.dictionary.truncate(index.dictionary.len());
+    }
+    let slips = Slips {
+        run_goes_on: fault("append-full-run-goes-on"),
+        plain_goes_on: fault("append-full-plain-goes-on"),
+        left_line_gathers: fault("append-left-line-gathered"),
+        left_line_repeats: fault("append-left-line-repeats"),
+    };
+    if let (true, Ok(after)) = (slips.any(), &mut answer) {
+        let told = (&index.imprints[..index.imprints_told as usize], &index.dictionary[..index.dictionary_told as usize]);
+        let runs = plain::stood_for(told.0, told.1).unwrap();
+        (after.imprints, after.dictionary) = slips.packing(&plain::extended(column, covered as usize, &index.borders, &runs));
         after.imprints.truncate(index.imprints.len());
         after.dictionary.truncate(index.dictionary.len());
     }
@@ -229,6 +323,27 @@ pub unsafe extern "C" fn mgz_append(
     number(&answer)
 }
 
+fn packed(list: &[u64], borders: &[i32], spaces: [usize; 2]) -> Result<(Vec<u64>, Vec<u32>), No> {
+    let (lines, most) = (list.len() as u64, plain::LINES_AT_MOST);
+    if fault("pack-2-at-the-most-lines") && lines == most {
+        return Err(No::of(2));
+    }
+    if fault("pack-takes-a-line-more") && lines == most + 1 {
+        return Err(No::of(3));
+    }
+    let answer = plain::pack(list, borders, spaces);
+    let slips = Slips {
+        run_goes_on: fault("full-run-goes-on"),
+        plain_goes_on: fault("full-plain-goes-on"),
+        left_line_gathers: fault("left-line-gathered"),
+        left_line_repeats: fault("left-line-repeats"),
+    };
+    if slips.any() && answer.is_ok() {
+        return Ok(slips.packing(&plain::runs(list)));
+    }
+    answer
+}
+
 #[no_mangle]
 pub unsafe extern "C" fn mgz_pack(
     list: *const u64,
@@ -243,20 +358,36 @@ pub unsafe extern "C" fn mgz_pack(
 ) -> u32 {
     let (list, borders, out) = unsafe { (read(list, n), read(borders, b), lent(out, 3)) };
     let (imprints, dictionary) = unsafe { (lent(imprints, i), lent(dictionary, d)) };
-    let mut answer = plain::pack(list, borders, [i, d]);
+    let mut answer = packed(list, borders, [i, d]);
     if fault("pack-takes-zero") && number(&answer) == 3 && list.contains(&0) {
         answer = plain::pack(&list.iter().map(|&w| w.max(1)).collect::<Vec<u64>>(), borders, [i, d]);
     }
-    let (kept, entries) = answer.clone().unwrap_or_default();
-    out.copy_from_slice(&[needed(&answer), kept.len() as u64, entries.len() as u64]);
+    let (needed, number) = (needed(&answer), number(&answer));
+    let (mut kept, mut entries) = answer.unwrap_or_default();
+    kept.truncate(i);
+    entries.truncate(d);
+    out.copy_from_slice(&[needed, kept.len() as u64, entries.len() as u64]);
     put(imprints, &kept);
     put(dictionary, &entries);
-    number(&answer)
+    number
 }
 
 /// What a dictionary says once bits 25 to 31 are passed over.
 fn lax(dictionary: &[u32]) -> Vec<u32> {
     dictionary.iter().map(|e| if fault("high-bits-pass") { e & 0x1FF_FFFF } else { *e }).collect()
+}
+
+fn unpacked(borders: &[i32], imprints: &[u64], dictionary: &[u32], lines: u64, space: usize) -> Result<Vec<u64>, No> {
+    if fault("unpack-2-at-the-most-lines") && lines == plain::LINES_AT_MOST {
+        return Err(No::of(2));
+    }
+    if fault("unpack-takes-a-line-more") && lines == plain::LINES_AT_MOST + 1 {
+        return Err(No::of(3));
+    }
+    match retaken(imprints, dictionary) {
+        Some((imprints, dictionary)) => plain::unpack(borders, &imprints, &dictionary, lines, space),
+        None => plain::unpack(borders, imprints, dictionary, lines, space),
+    }
 }
 
 #[no_mangle]
@@ -273,7 +404,7 @@ pub unsafe extern "C" fn mgz_unpack(
     out: *mut u64,
 ) -> u32 {
     let (borders, imprints, dictionary) = unsafe { (read(borders, b), read(imprints, i), read(dictionary, d)) };
-    let answer = plain::unpack(borders, imprints, &lax(dictionary), lines, n);
+    let answer = unpacked(borders, imprints, &lax(dictionary), lines, n);
     put(unsafe { lent(list, n) }, answer.as_deref().unwrap_or(&[]));
     unsafe { *out = needed(&answer) };
     number(&answer)
@@ -314,14 +445,21 @@ fn masks(borders: &[i32], low: i32, high: i32) -> (u64, u64) {
 }
 
 fn searched(column: &[i32], borders: &[i32], imprints: &[u64], dictionary: &[u32], low: i32, high: i32, space: usize) -> Result<Found, No> {
+    if let Some(no) = misjudged(column.len() as u64, fault("search-2-at-the-longest"), fault("search-takes-a-row-more")) {
+        return Err(no);
+    }
     if fault("low-above-high-first") && high < low && column.len() <= plain::ROWS_AT_MOST {
         return Err(No::of(1));
     }
     let dictionary = lax(dictionary);
-    plain::search(column, borders, imprints, &dictionary, low, high, usize::MAX)?;
-    let list = plain::listed(borders, imprints, &dictionary, plain::lines(column.len()) as u64).unwrap();
+    let retaken = retaken(imprints, &dictionary);
+    let (imprints, dictionary) = retaken.as_ref().map_or((imprints, &dictionary), |(imprints, dictionary)| (imprints, dictionary));
+    let runs = plain::index_runs(column, borders, imprints, dictionary)?;
+    if high < low {
+        return Err(No::of(1));
+    }
     let compared: &[i32] = if fault("dead-matched") && low == plain::FAULT { &raised(column) } else { column };
-    let mut found = plain::rows_of(compared, &list, masks(borders, low, high), low, high);
+    let mut found = plain::rows_of(compared, plain::each_word(&runs), masks(borders, low, high), low, high);
     if fault("dead-left-out-of-whole-lines") {
         found.ids.retain(|&row| !plain::fault(column[row as usize]));
     }
@@ -365,7 +503,8 @@ pub unsafe extern "C" fn mgz_search(
     let (column, ids, out) = unsafe { (read(column, n), lent(ids, m), lent(out, 5)) };
     let (borders, imprints, dictionary) = unsafe { (read(borders, b), read(imprints, i), read(dictionary, d)) };
     let answer = searched(column, borders, imprints, dictionary, low, high, m);
-    let found = answer.clone().unwrap_or_default();
+    let nothing = Found::default();
+    let found = answer.as_ref().unwrap_or(&nothing);
     if fault("out-kept-at-refusal") && number(&answer) == 4 {
         out[0] = needed(&answer);
         return 4;
@@ -521,6 +660,9 @@ pub unsafe extern "C" fn mgz_guarded_search(
     let (words, column, ids, out) = unsafe { (lent(words, w), read(column, n), lent(ids, m), lent(out, 6)) };
     let (borders, imprints, dictionary) = unsafe { (read(borders, b), read(imprints, i), read(dictionary, d)) };
     let mut answer = plain::guarded(words, column, borders, imprints, dictionary, low, high, m);
+    if let Some(no) = misjudged(n as u64, fault("guarded-2-at-the-longest"), fault("guarded-takes-a-row-more")) {
+        answer = Err(no);
+    }
     if let (true, Some(words)) = (fault("unusable-room-searched"), lowered(words)) {
         answer = plain::guarded(&words, column, borders, imprints, dictionary, low, high, m);
     }
@@ -607,12 +749,17 @@ fn first_negative(minutes: &[i32]) -> Option<usize> {
 }
 
 fn registered(minutes: &[i32], space: usize) -> Result<Vec<Entry>, No> {
-    let negative = first_negative(minutes).map(No::negative);
-    if let (true, Some(no)) = (fault("register-13-before-2"), negative) {
+    if let Some(no) = misjudged(minutes.len() as u64, fault("register-2-at-the-longest"), fault("register-takes-a-row-more")) {
         return Err(no);
     }
     if plain::ROWS_AT_MOST < minutes.len() {
-        return Err(No::of(2));
+        // Of so many rows the first ones are enough.
+        let negative = fault("register-13-before-2").then(|| first_negative(&minutes[..100])).flatten();
+        return Err(negative.map_or(No::of(2), No::negative));
+    }
+    let negative = first_negative(minutes).map(No::negative);
+    if let (true, Some(no)) = (!fault("register-4-before-13"), negative) {
+        return Err(no);
     }
     let first_rows: Vec<usize> = (0..minutes.len()).filter(|&row| begins(minutes, row)).collect();
     let mut entries = plain::entries(minutes, &first_rows);
@@ -678,7 +825,8 @@ fn card_written(rows: u64, index: &Index, space: usize) -> Result<Vec<u8>, No> {
         let check = card_check(block);
         block[CHECKED..].copy_from_slice(&check);
     }
-    let refusal = plain_card::is_index(rows, index).err();
+    let misjudged = misjudged(rows, fault("card-2-at-the-longest"), fault("card-takes-a-row-more"));
+    let refusal = misjudged.or(plain_card::is_index(rows, index).err());
     let needed = if fault("card-needs-blocks") { image.len() / BLOCK } else { image.len() };
     let short = (space < image.len()).then(|| No::short(needed));
     let unfit = matches!(refusal, Some(No { number: 3, .. }));
@@ -778,7 +926,7 @@ fn card_fed(block: &[u8], state: State, spaces: &Index) -> (Result<Fed, No>, Opt
     if !card_in_place(block, &told) {
         return bad(15);
     }
-    if fault("card-2-at-the-header") && plain::ROWS_AT_MOST as u64 <= told.rows.saturating_sub(1) {
+    if fault("card-2-before-the-last-block") && plain::ROWS_AT_MOST as u64 <= told.rows.saturating_sub(1) {
         return (Err(No::of(2)), None);
     }
     if let Some(no) = card_short(&told, spaces) {

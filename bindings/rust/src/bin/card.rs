@@ -164,7 +164,6 @@ fn in_words(error: Error, reader: &CardReader, block: &[u8], more: u64) -> Strin
             let most = format!("and an index has at most {BORDERS_AT_MOST}, {LINES_AT_MOST} and {LINES_AT_MOST}");
             format!("{name} is bad: its header claims {borders} borders, {imprints} imprints and {dictionary} dictionary words, {most}")
         }
-        Error::ColumnTooLong => none(format!("they claim {} rows, and a column has at most {ROWS_AT_MOST}", told.rows)),
         Error::BadBorders => none("their borders are not strictly rising".to_string()),
         Error::NotAnIndex => none(format!("their imprints and dictionary words are none of a column of {} rows", told.rows)),
         other => format!("{name} is bad: {other}"),
