@@ -12,7 +12,7 @@ mod registers;
 use miguzoryane::{guarded_search, search, Filter, IndexBuf, Outcome};
 use std::hint::black_box;
 
-/// Request 113 measures with so many.
+/// As many as the figures of docs/MEASURED.md are of.
 const USUAL_ROWS: usize = 16_777_216;
 
 fn setting(name: &str, usual: usize) -> usize {

@@ -499,44 +499,28 @@ fn acceptance(full: u32, places: usize)
     );
 }
 
+fn of_lists(asked: OfList, full: u32, what: &[u8])
+    requires { ⌜ (2 ≤ full) × (full ≤ 4) ⌝ }
+{
+    say(Asked::List(asked), full, 511, what);
+}
+
 fn packings(full: u32)
     requires { ⌜ (2 ≤ full) × (full ≤ 4) ⌝ }
 {
     text(b" 511 lists packed\n");
-    say(
-        Asked::List(OfList::Words),
+    of_lists(OfList::Words, full, b" is the sum of their words\n");
+    of_lists(OfList::Full, full, b" of them with a full entry\n");
+    of_lists(
+        OfList::Unlike,
         full,
-        511,
-        b" is the sum of their words\n",
-    );
-    say(
-        Asked::List(OfList::Full),
-        full,
-        511,
-        b" of them with a full entry\n",
-    );
-    say(
-        Asked::List(OfList::Unlike),
-        full,
-        511,
         b" of them otherwise than with the largest count one more\n",
     );
-    say(
-        Asked::List(OfList::Refused),
+    of_lists(OfList::Refused, full, b" of them refused\n");
+    of_lists(OfList::Lost, full, b" of them unpacked to another list\n");
+    of_lists(
+        OfList::Strayed,
         full,
-        511,
-        b" of them refused\n",
-    );
-    say(
-        Asked::List(OfList::Lost),
-        full,
-        511,
-        b" of them unpacked to another list\n",
-    );
-    say(
-        Asked::List(OfList::Strayed),
-        full,
-        511,
         b" of them stepped through otherwise\n",
     );
 }

@@ -11,6 +11,7 @@ use Rattle.dictionary.specs.Dictionary.{Entry, plain, repeat, entries, p
 use Rattle.dictionary.proofs.Stream.{State, empty, single, many, over}
 use Rattle.dictionary.proofs.Accept.{differs, leaves, goes-on, Reading, on, bad, at, read, may-repeat, good, state-of, accepts}
 use Rattle.dictionary.proofs.AcceptLaws.{read-bad, entries-accepted}
+use Rattle.dictionary.proofs.ParseLaws.{over-length}
 use Rattle.dictionary.proofs.IndexLaws.{pack-unpack}
 
 same-on : {s t : State} → on s ≡ on t → s ≡ t
@@ -41,24 +42,27 @@ module _ (full : ℕ) (two : 2 ≤ full) where
           let f = and-eq-true-iff (may-repeat full (many c w) d w) (accepts full (many d w) b) .0 (g .1) in
           run-goes-on c w (and-eq-true-iff (differs (many c w) w || goes-on full (many c w) w) (leb 2 d && leb d full) .0 (f .0) .0)
 
-  -- nothing is gathered with a line left over
-  over-alone : (us : List ℕ) (w : ℕ) → good (read full (on (over w)) us) ≡ true → us ≡ []
-  over-alone [] w h = refl
-  over-alone (u ∷ us) w h = absurd (false≢true (rw (read-bad full us) at h))
+  -- a plain entry comes next: its words are read to their end
+  read-whole : (q : State) (ws : List ℕ) (b : List Entry) → accepts full q (plain ws ∷ b) ≡ true → (P : Type 0) → ((s : State) → read full (at q) ws ≡ on s → accepts full s b ≡ true → P) → P
+  read-whole q ws b h P k = go (read full (at q) ws) refl h
+    where
+      go : (r : Reading) → read full (at q) ws ≡ r → (good r && accepts full (state-of r) b) ≡ true → P
+      go (at p) t h = absurd (false≢true h)
+      go bad t h = absurd (false≢true h)
+      go (on s) t h = k s t h
 
   -- A PLAIN ENTRY THAT BEGINS WITH THE IMPRINT OF THE REPEAT ENTRY BEFORE IT: that is full, and this one is the line left over
   pub left-over : (ws : List ℕ) (a b : List Entry) (c w : ℕ) (vs : List ℕ) → entries full ws ≡ a ++ (repeat c w ∷ plain (w ∷ vs) ∷ b) → (c ≡ full) × (vs ≡ [])
   left-over ws a b c w vs e = later a (repeat c w ∷ plain (w ∷ vs) ∷ b) empty (rw e at (entries-accepted full two ws)) ((c ≡ full) × (vs ≡ [])) (λ q h. first q h)
     where
-      begun : (f : Bool) → eqb c full ≡ f → good (read full (at (many c w)) (w ∷ vs)) ≡ true → (c ≡ full) × (vs ≡ [])
-      begun true t h = (eqb-true c full t, over-alone vs w (rw (eq-eqb w w refl, t) at h))
-      begun false t h = absurd (false≢true (rw (eq-eqb w w refl, t, read-bad full vs) at h))
+      begun : (f : Bool) → eqb c full ≡ f → (s : State) → read full (at (many c w)) (w ∷ vs) ≡ on s → (c ≡ full) × (vs ≡ [])
+      begun true t s h = (eqb-true c full t, over-length full two vs w s (rw (eq-eqb w w refl, t) at h))
+      begun false t s h = absurd (false≢true (rw (read-bad full vs) at (ap good (rw (eq-eqb w w refl, t) at h))))
 
       first : (q : State) → accepts full q (repeat c w ∷ plain (w ∷ vs) ∷ b) ≡ true → (c ≡ full) × (vs ≡ [])
       first q h =
           let g = and-eq-true-iff (may-repeat full q c w) (accepts full (many c w) (plain (w ∷ vs) ∷ b)) .0 h in
-          let f = and-eq-true-iff (good (read full (at (many c w)) (w ∷ vs))) (accepts full (state-of (read full (at (many c w)) (w ∷ vs))) b) .0 (g .1) in
-          begun (eqb c full) refl (f .0)
+          read-whole (many c w) (w ∷ vs) b (g .1) ((c ≡ full) × (vs ≡ [])) (λ s t k. begun (eqb c full) refl s t)
 
   -- how many lines the entry has that is being read, where it is a plain one with none left over
   abbrev size : State → ℕ
@@ -91,25 +95,22 @@ module _ (full : ℕ) (two : 2 ≤ full) where
   plains-beside ws a b x xs y ys e short = later a (plain (x ∷ xs) ∷ plain (y ∷ ys) ∷ b) empty (rw e at (entries-accepted full two ws)) (xs ≡ []) (λ q h. first q h)
     where
       -- the second may begin, so what was read before is full
-      next : (s : State) (f g : Bool) → good (read full (cond f (on (single [] y)) (cond g (on (over y)) bad)) ys) ≡ true → (f || g) ≡ true
-      next s true g h = refl
-      next s false true h = refl
-      next s false false h = absurd (false≢true (rw (read-bad full ys) at h))
+      next : (f g : Bool) → good (read full (cond f (on (single [] y)) (cond g (on (over y)) bad)) ys) ≡ true → (f || g) ≡ true
+      next true g h = refl
+      next false true h = refl
+      next false false h = absurd (false≢true (rw (read-bad full ys) at h))
 
-      begun : (q s : State) (f g : Bool) → read full (cond f (on (single [] x)) (cond g (on (over x)) bad)) xs ≡ on s → good (read full (at s) (y ∷ ys)) ≡ true → xs ≡ []
-      begun q s true g h k =
+      begun : (s : State) (f g : Bool) → read full (cond f (on (single [] x)) (cond g (on (over x)) bad)) xs ≡ on s → good (read full (at s) (y ∷ ys)) ≡ true → xs ≡ []
+      begun s true g h k =
           let n = read-size xs [] x s h in
-          absurd (short (omega (arith, n, leaves-full s y (omega (arith, n)) (next s (differs s y && leaves full s) (goes-on full s y) k))))
-      begun q s false true h k = over-alone xs x (ap good h)
-      begun q s false false h k = absurd (false≢true (rw (read-bad full xs) at (ap good h)))
+          absurd (short (omega (arith, n, leaves-full s y (omega (arith, n)) (next (differs s y && leaves full s) (goes-on full s y) k))))
+      begun s false true h k = over-length full two xs x s h
+      begun s false false h k = absurd (false≢true (rw (read-bad full xs) at (ap good h)))
 
       first : (q : State) → accepts full q (plain (x ∷ xs) ∷ plain (y ∷ ys) ∷ b) ≡ true → xs ≡ []
-      first q h = go (read full (at q) (x ∷ xs)) refl h
-        where
-          go : (r : Reading) → read full (at q) (x ∷ xs) ≡ r → (good r && accepts full (state-of r) (plain (y ∷ ys) ∷ b)) ≡ true → xs ≡ []
-          go (at p) t h = absurd (false≢true h)
-          go bad t h = absurd (false≢true h)
-          go (on s) t h = begun q s (differs q x && leaves full q) (goes-on full q x) t (and-eq-true-iff (good (read full (at s) (y ∷ ys))) (accepts full (state-of (read full (at s) (y ∷ ys))) b) .0 h .0)
+      first q h =
+          read-whole q (x ∷ xs) (plain (y ∷ ys) ∷ b) h (xs ≡ [])
+          (λ s t k. begun s (differs q x && leaves full q) (goes-on full q x) t (and-eq-true-iff (good (read full (at s) (y ∷ ys))) (accepts full (state-of (read full (at s) (y ∷ ys))) b) .0 k .0))
 
   -- WORDS THAT ARE NOT THE PACKING OF THE LINES THEY STAND FOR ARE REFUSED
   pub other-refused : full < 2 ^ 24 → (n lines : ℕ) (ds is : List ℕ) → ((pack full (unpack ds is) .dict ≡ ds) × (pack full (unpack ds is) .imps ≡ is) → ⊥) → accepted full n lines ds is ≡ false

@@ -80,7 +80,7 @@ module _ (full : ℕ) (two : 2 ≤ full) where
       go false true u e ih = clash (cc (read-bad full ws))
       go false false u e ih = omega (arith, length-append o (x ∷ []), ih e (omega (arith, length-append o (x ∷ []), lt-of-le-ne h (eqb-false (suc (length o)) full u))))
 
-  over-length : (ws : List ℕ) (x : ℕ) (s : State) → read full (on (over x)) ws ≡ on s → ws ≡ []
+  pub over-length : (ws : List ℕ) (x : ℕ) (s : State) → read full (on (over x)) ws ≡ on s → ws ≡ []
   over-length [] x s e = refl
   over-length (w ∷ ws) x s e = clash (cc (read-bad full ws))
 

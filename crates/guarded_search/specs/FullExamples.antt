@@ -1,5 +1,5 @@
 -- Document 02, request 107: cases of entries that fill up, at the largest counts 2, 3 and 4, as further rows of the check that the definitions compute. Assumes nothing.
-use Prim.Native.Nat.{ℕ, zero, suc, _+_, _*_, _^_}
+use Prim.Native.Nat.{ℕ, zero, suc, _+_, _^_}
 use mathlib.Core.List.{List, [], _∷_, _++_}
 use mathlib.Core.Bool.{Bool, _&&_}
 use lib.Dec.{eqb, lit≤, lit<}

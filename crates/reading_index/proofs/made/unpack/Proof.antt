@@ -3,7 +3,6 @@ use Prim.Native.Nat.{ℕ}
 use mathlib.Core.Path.{_≡_, sym, _∙_, ap}
 use mathlib.Core.Bool.{true}
 use native.Mathlib.Omega.{arith}
-use lib.Dec.{lit<, lit≤}
 use borrow.Author.Tests.{not-true, not-false}
 use Rattle.bins.specs.Bins.{readings, good-borders, bins}
 use Rattle.dictionary.specs.Dictionary.{accepted}
