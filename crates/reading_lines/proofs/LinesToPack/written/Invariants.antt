@@ -1,0 +1,9 @@
+-- `reading_lines::LinesToPack::written` meets its contract: the loop keeps `Writing` over the imprints from line i on. Assumes nothing.
+use Rattle.bins.specs.Bins.{readings}
+use Rattle.dictionary.proofs.PackLoops.{Writing}
+use Rattle.column_index.specs.Extended.{imprints_from}
+use Rattle.reading_lines.specs.loops.ToPack.{to_pack}
+use Rattle.reading_lines.proofs.LinesToPack.written.Given as goal
+
+abbrev pub invariant-loop-i : goal.invariant-loop-i
+invariant-loop-i l = Writing readings.full l.self.before (to_pack l.self) l.initial.imprints l.initial.dictionary l.packer (imprints_from readings l.self.borders.now l.self.column.now l.i) l.imprints l.dictionary
