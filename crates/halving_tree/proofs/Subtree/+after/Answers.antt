@@ -27,19 +27,63 @@ after-left-requires t c =
     let d = down t (goal.at.after-left-requires t c).After-parted in
     rw c.halves-split.ensures.left (omega arith, laws.left_spot c.requires d)
 
-pub after-right-requires : goal.after-right-requires
-after-right-requires t c =
-    let d = down t (goal.at.after-right-requires t c).After-parted in
-    rw c.halves-split.ensures.right (omega arith, laws.right_spot c.requires d)
+pub form-requires-then-high-half : goal.form-requires-then-high-half
+form-requires-then-high-half t c =
+    let d = down t (goal.at.form-requires-then-high-half t c).After-parted in
+    rw c.halves-split.ensures.right (laws.as_laid (laws.right_spot c.requires d))
 
 pub joined-requires : goal.joined-requires
 joined-requires t c =
     let d = down t (goal.at.joined-requires t c).After-parted in
     let h = c.halves-split.ensures in
-    laws.joined_room c.requires d c.args.inside (rw h.left at c.after-left.ensures) (rw h.right at c.after-right.ensures)
+    laws.joined_room c.requires d c.args.inside (rw h.left at c.after-left.ensures) (laws.right_kept c.requires d c.if-high-half.true c.args.inside (rw h.right at c.form-then-high-half.ensures))
+
+pub returns-then-high-half : goal.returns-then-high-half
+returns-then-high-half t c =
+    let d = down t (goal.at.returns-then-high-half t c).After-parted in
+    let h = c.halves-split.ensures in
+    laws.joined_is c.requires d c.args.inside (rw h.left at c.after-left.ensures) (laws.right_kept c.requires d c.if-high-half.true c.args.inside (rw h.right at c.form-then-high-half.ensures)) c.joined.ensures
+
+pub after-right-requires : goal.after-right-requires
+after-right-requires t c =
+    let d = down t (goal.at.after-right-requires t c).After-parted in
+    rw c.halves-split.ensures.right (omega arith, laws.right_spot c.requires d)
+
+pub form-requires-then-half-low : goal.form-requires-then-half-low
+form-requires-then-half-low t c =
+    let d = down t (goal.at.form-requires-then-half-low t c).After-parted in
+    rw c.halves-split.ensures.left (laws.as_laid (laws.left_spot c.requires d))
+
+pub joined-requires-then-half-low : goal.joined-requires-then-half-low
+joined-requires-then-half-low t c =
+    let d = down t (goal.at.joined-requires-then-half-low t c).After-parted in
+    let h = c.halves-split.ensures in
+    laws.joined_room c.requires d c.args.inside (laws.left_kept c.requires d c.if-half-low.true c.args.inside (rw h.left at c.form-then-half-low.ensures)) (rw h.right at c.after-right.ensures)
+
+pub returns-then-half-low : goal.returns-then-half-low
+returns-then-half-low t c =
+    let d = down t (goal.at.returns-then-half-low t c).After-parted in
+    let h = c.halves-split.ensures in
+    laws.joined_is c.requires d c.args.inside (laws.left_kept c.requires d c.if-half-low.true c.args.inside (rw h.left at c.form-then-half-low.ensures)) (rw h.right at c.after-right.ensures) c.joined-then-half-low.ensures
+
+pub after-left-requires-2 : goal.after-left-requires-2
+after-left-requires-2 t c =
+    let d = down t (goal.at.after-left-requires-2 t c).After-parted in
+    rw c.halves-split.ensures.left (omega arith, laws.left_spot c.requires d)
+
+pub after-right-requires-2 : goal.after-right-requires-2
+after-right-requires-2 t c =
+    let d = down t (goal.at.after-right-requires-2 t c).After-parted in
+    rw c.halves-split.ensures.right (omega arith, laws.right_spot c.requires d)
+
+pub joined-requires-2 : goal.joined-requires-2
+joined-requires-2 t c =
+    let d = down t (goal.at.joined-requires-2 t c).After-parted in
+    let h = c.halves-split.ensures in
+    laws.joined_room c.requires d c.args.inside (rw h.left at c.after-left-2.ensures) (rw h.right at c.after-right-2.ensures)
 
 pub returns : goal.returns
 returns t c =
     let d = down t (goal.at.returns t c).After-parted in
     let h = c.halves-split.ensures in
-    laws.joined_is c.requires d c.args.inside (rw h.left at c.after-left.ensures) (rw h.right at c.after-right.ensures) c.joined.ensures
+    laws.joined_is c.requires d c.args.inside (rw h.left at c.after-left-2.ensures) (rw h.right at c.after-right-2.ensures) c.joined-2.ensures
